@@ -21,13 +21,11 @@ use Rattle.lock_core.specs.declared.call.Ordered.{Ordered}
 use Rattle.lock_workers.specs.RunResult.{AreHandled}
 use Rattle.stream_run.specs.declared.ending.Ending.{Ending}
 use Rattle.stream_run.specs.declared.ending.Ending.TheVariants as ending
-use Rattle.stream_run.specs.declared.fault.RunFault.{RunFault}
-use Rattle.stream_run.specs.declared.fault.RunFault.TheVariants.{File, Memory}
 use Rattle.stream_run.specs.Runs.{Handled, turn_of, run_of}
 use Rattle.stream_run.specs.Orders.{Order, Keeps}
 use Rattle.stream_run.specs.Rules.{Rule, KeepsBy, lone_rule, lock_rule, IsRunBy}
 use Rattle.stream_run.specs.Texts.{bytes_of}
-use Rattle.stream_run.specs.Writing.{Holding, IsFrontIfTold, files_of, AreFronts, AreEmpty, AllGoOn, KeepsBut, StopsAmong}
+use Rattle.stream_run.specs.Writing.{Holding, IsFrontIfTold, files_of, AreFronts, AreEmpty, AllGoOn, KeepsBut}
 use Rattle.stream_run.specs.Streaming.{handling_in, arrival_of, AreFirst}
 use Rattle.stream_run.specs.Lawful.{AreTheFirst, EndsSo}
 use Rattle.stream_run.proofs.Stepping.{always}
@@ -37,7 +35,7 @@ use Rattle.sharded_run.specs.Reading.{Gathers, IsOver}
 use Rattle.locked_run.specs.declared.result.Settled.{Settled}
 use Rattle.locked_run.specs.Locked.{IsDue}
 use Rattle.locked_run.specs.Handled.{joined}
-use Rattle.locked_run.specs.Going.{mode_of, AreSettled, AreWhole, Writes, IsWritten, IsHalted}
+use Rattle.locked_run.specs.Going.{mode_of, AreSettled, AreWhole, Writes, AllWritten, IsHalted}
 use Rattle.locked_run.specs.Lawful.{IsFinished, IsCutShort}
 use Rattle.locked_run.proofs.Joining.{undivided_of, workers_are, ports_kept as each_port, all_zero, in_capture_order}
 use Rattle.locked_run.proofs.Once.{stands_once}
@@ -167,7 +165,7 @@ ends_so ending.TooMany ports begun feed start now before batch none g over b = (
 -- ---- how a run ends
 
 pub finished_of : (f : Function) (workers : ℕ) (card : Card) (format : CaptureFormat) (Refused : Type 0) (n ports : ℕ) (begun feed : Feeding) (start read now : Told) (files : List ℕ) (batch : List Arrival) (e : Ending) (settled : Settled) (packets : ℕ) → n ≡ length f.handlers → begun.given ≡ 0 → Gathers ports begun feed start read batch → IsOver e begun start feed batch
-    → IsWritten f workers card format Refused n batch now files settled → packets ≡ feed.given → IsFinished f workers card format Refused begun start feed now files (record { mode = settled.mode; ran = record { ending = e; packets = packets; state = settled.state } })
+    → AllWritten f workers card format Refused n batch now files settled → packets ≡ feed.given → IsFinished f workers card format Refused begun start feed now files (record { mode = settled.mode; ran = record { ending = e; packets = packets; state = settled.state } })
 finished_of f workers card format Refused n ports begun feed start read now files batch e settled packets same none g over w count =
     let mode = settled.mode in
     let u = w.are.are.undivided in
@@ -223,7 +221,3 @@ cut_short_of f workers card format Refused n ports begun feed start read now fil
 -- nothing was given to a file that is still empty
 pub still_empty : (old new : Told) (files : List ℕ) → KeepsBut [] old new → ((k file : ℕ) → slice_get files k ≡ Some file → IsEmptyIfTold (old.given file)) → (k file : ℕ) → slice_get files k ≡ Some file → IsEmptyIfTold (new.given file)
 still_empty old new files kept empty k file e = subst IsEmptyIfTold (sym (kept.givens file (λ i d lt. absurd (omega (arith, lt))))) (empty k file e)
-
-pub stops_as : (T U : Type 0) (captures files : List ℕ) (stop : RunFault) → StopsAmong {T = T} captures files (Err stop) → StopsAmong {T = U} captures files (Err stop)
-stops_as T U captures files Memory h = tt
-stops_as T U captures files (File file) h = h

@@ -6,11 +6,10 @@ use Rattle.capture_format.specs.declared.format.CaptureFormat.{CaptureFormat}
 use Rattle.nf_base.specs.declared.state.State.{State}
 use Rattle.nf_base.specs.Text.{Function}
 use Rattle.nf_files.specs.Told.{Told, IsToldAs, IsEmptyIfTold}
-use Rattle.nf_files.specs.Told as told
 use Rattle.packet_feed.specs.Arrivals.{Arrival}
-use Rattle.packet_feed.specs.Told.{EachFile, IsApart}
 use Rattle.run_history.specs.declared.line.Mode.{Mode}
 use Rattle.run_history.specs.declared.line.Mode.TheVariants.{One, Lock}
+use Rattle.stream_run.specs.Given.{AreWritable}
 use Rattle.stream_run.specs.Runs.{Handled}
 use Rattle.stream_run.specs.Texts.{bytes_of}
 use Rattle.stream_run.specs.Writing.{AreFronts}
@@ -35,8 +34,7 @@ pub record AreSettled (f : Function) (mode : Mode) (workers : ℕ) (Refused : Ty
 
 -- files that were created, none of them twice and not too many, to which nothing was given yet
 pub record AreFresh (now : Told) (files : List ℕ) : Type 0 where
-  pub created : EachFile (told.IsWritten now) files
-  pub apart : IsApart files
+  pub writable : AreWritable now files
   pub few : length files ≤ 2 ^ 32
   pub empty : (k file : ℕ) → slice_get files k ≡ Some file → IsEmptyIfTold (now.given file)
 
@@ -55,7 +53,7 @@ Writes mode workers card format ports hs now files (Err e) =
     AreFronts mode workers card format ports hs now files
 
 -- all packets were handled, and written
-pub record IsWritten (f : Function) (workers : ℕ) (card : Card) (format : CaptureFormat)
+pub record AllWritten (f : Function) (workers : ℕ) (card : Card) (format : CaptureFormat)
     (Refused : Type 0) (ports : ℕ) (batch : List Arrival) (now : Told) (files : List ℕ)
     (settled : Settled) : Type 0 where
   pub hs : List Handled
@@ -78,6 +76,6 @@ pub record IsHalted (f : Function) (workers : ℕ) (card : Card) (format : Captu
 abbrev pub Settles : {E : Type 0} → Function → ℕ → Card → CaptureFormat → Type 0 → ℕ →
     List Arrival → Told → List ℕ → Result Settled E → Type 0
 Settles f workers card format Refused ports batch now files (Ok settled) =
-    IsWritten f workers card format Refused ports batch now files settled
+    AllWritten f workers card format Refused ports batch now files settled
 Settles f workers card format Refused ports batch now files (Err stop) =
     IsHalted f workers card format Refused ports batch now files

@@ -1,12 +1,10 @@
 //! A whole run in mode `lock`.
-ghost use Rattle.std.specs.Prelude.{◌≡◌, ◌^◌, ◌+◌, ◌<◌, ◌≤◌, ◌⊎◌, ℕ, List, [], Some, length, map, slice_get, All, IfOk};
-ghost use Rattle.nf_base.specs.Doors.{six_ports, IsServed};
+ghost use Rattle.std.specs.Prelude.{◌≡◌, ◌^◌, ◌+◌, ◌<◌, ◌≤◌, ◌⊎◌, [], length, map, All, IfOk};
+ghost use Rattle.nf_base.specs.Doors.{IsServed};
 ghost use Rattle.nf_base.specs.Functions.{function_of};
-ghost use Rattle.nf_files.specs.Told.{Told, IsEmptyIfTold, IsRead, IsWritten};
-ghost use Rattle.packet_feed.specs.Arrivals.{Arrival, packet_of};
-ghost use Rattle.packet_feed.specs.Told.{EachFile, IsApart};
-ghost use Rattle.packet_feed.specs.Sources.{files_in, sixes_in};
-ghost use Rattle.stream_run.specs.Writing.{KeepsBut, IsStopCause, StopsAmong};
+ghost use Rattle.packet_feed.specs.Arrivals.{packet_of};
+ghost use Rattle.stream_run.specs.Given.{HasCaptures, HasTargets};
+ghost use Rattle.stream_run.specs.Writing.{KeepsBut, IsStopCause, StopsAmong, WentOn};
 ghost use Rattle.lock_mode.specs.Gates.{Rose};
 ghost use Rattle.run_history.specs.Headings.{IsHeading};
 ghost use Rattle.lock_workers.specs.RunResult.{AreAt, AreHandled};
@@ -206,17 +204,9 @@ pub fn run<R: Threads + Wait + Sync, F: Files, T: Turns + Sync, G: Gate + Drop +
     gate: &mut G,
 ) -> Result<LockedResult, RunFault>
     requires several { 1 < workers }
-    requires captures { files_in feed.old.sources ≡ captures.now }
-    requires six { sixes_in feed.old.sources ≡ six_ports (function_of func.now) }
-    requires ports { length captures.now ≡ length func.now.handlers }
+    requires captures { HasCaptures func.now captures.now feed.old (F.told files.old) }
     requires new { feed.old.given ≡ 0 }
-    requires opened { EachFile (IsRead (F.told files.old)) captures.now }
-    requires created { EachFile (IsWritten (F.told files.old)) targets.now }
-    requires apart { IsApart targets.now }
-    requires as_many { length targets.now ≡ length func.now.handlers + 1 }
-    requires few { length targets.now ≤ 2 ^ 32 }
-    requires empty { (k : ℕ) → (file : ℕ) → slice_get targets.now k ≡ Some file →
-        IsEmptyIfTold ((F.told files.old).given file) }
+    requires targets { HasTargets func.now targets.now (F.told files.old) }
     // One run's files are whole, and it handled the first packets of the captures, each port's in
     // their order; or each file holds a front of what such a run leaves there. It is in mode `one`,
     // and in capture order, only where the gate's count rose.
@@ -224,10 +214,9 @@ pub fn run<R: Threads + Wait + Sync, F: Files, T: Turns + Sync, G: Gate + Drop +
         Runs (function_of func.now) workers card format Refused feed.old (F.told files.old)
         feed.new (F.told files.new) targets.now result }
     ensures rises { G.refused gate.old ≤ G.refused gate.new }
-    ensures kept { KeepsBut targets.now (F.told files.old) (F.told files.new) }
-    ensures cause { IsStopCause (F.counted files.old) (F.counted files.new) result }
     // The file that failed is one of the captures or of the targets.
-    ensures among { StopsAmong captures.now targets.now result }
+    ensures went { WentOn captures.now targets.now (F.told files.old) (F.told files.new)
+        (F.counted files.old) (F.counted files.new) result }
 {
     let mut batch = Batch::new(alloc);
     let ending = match read_all(alloc, files, feed, captures, &mut batch) {

@@ -25,6 +25,12 @@ pub record Feeding : Type 0 where
   pub given : ℕ
   pub most : ℕ
 
+-- it reads the same files, of the same ports, and gives as many packets at most
+pub record SameFeed (old new : Feeding) : Type 0 where
+  pub files : files_in new.sources ≡ files_in old.sources
+  pub six : sixes_in new.sources ≡ sixes_in old.sources
+  pub most : new.most ≡ old.most
+
 -- what holds of every value
 pub record IsFeeding (sources : List Stream) (given most : ℕ) : Type 0 where
   pub counts : All (λ count. count ≤ given) (counts_in sources)

@@ -1,5 +1,5 @@
 //! The packets of captures in capture order.
-ghost use Rattle.std.specs.Prelude.{◌≡◌, ◌^◌, ◌<◌, ◌≤◌, ◌+◌, ℕ, List, [], length, IfOk, IfErr, IfSome, OnErr, option_map};
+ghost use Rattle.std.specs.Prelude.{◌≡◌, ◌^◌, ◌<◌, ◌≤◌, ◌+◌, ℕ, List, [], length, IfOk, IfErr, IfSome, option_map};
 ghost use Rattle.nf_base.specs.Doors.{six_ports};
 ghost use Rattle.nf_base.specs.Functions.{function_of};
 ghost use Rattle.nf_files.specs.Told.{Told, IsRead};
@@ -8,9 +8,8 @@ ghost use Rattle.packet_feed.specs.Arrivals.{Arrival, fields_seen};
 ghost use Rattle.packet_feed.specs.Order.{in_order, IsOrdered};
 ghost use Rattle.packet_feed.specs.Faults.{IsCause, IsNoHeaderFault, IsOneOf};
 ghost use Rattle.packet_feed.specs.Told.{EachFile, IsApart, KeepsOthers};
-ghost use Rattle.packet_feed.specs.Streams.{last_read};
-ghost use Rattle.packet_feed.specs.Sources.{files_in, sixes_in, AreFrom};
-ghost use Rattle.packet_feed.specs.Feeding.{StandsFor, Starts, Feeds, GoesFrom, Counts, fed, last_packet, frame_of, original_of, first_tear, tears_in};
+ghost use Rattle.packet_feed.specs.Sources.{files_in, AreFrom};
+ghost use Rattle.packet_feed.specs.Feeding.{StandsFor, SameFeed, Starts, Feeds, GoesFrom, Counts, fed, last_packet, frame_of, original_of, first_tear, tears_in};
 ghost use Rattle.packet_feed.specs.Ports.{StandsByPort, FeedsAt, CountsAt};
 
 use crate::fault::FeedFault;
@@ -125,9 +124,7 @@ impl Feed {
         // Times never fall.
         ensures times { (time : ℕ) → AreFrom time self.old.sources →
             GoesFrom time self.new.sources (fed self.new result) }
-        ensures same_files { files_in self.new.sources ≡ files_in self.old.sources }
-        ensures same_six { sixes_in self.new.sources ≡ sixes_in self.old.sources }
-        ensures same_most { self.new.most ≡ self.old.most }
+        ensures same { SameFeed self.old self.new }
         ensures kept { let all = files_in self.old.sources in
             KeepsOthers all (F.told files.old) (F.told files.new) }
         ensures cause { let all = files_in self.old.sources in
@@ -184,9 +181,7 @@ impl Feed {
         // Times never fall.
         ensures times { (time : ℕ) → AreFrom time self.old.sources →
             GoesFrom time self.new.sources result }
-        ensures same_files { files_in self.new.sources ≡ files_in self.old.sources }
-        ensures same_six { sixes_in self.new.sources ≡ sixes_in self.old.sources }
-        ensures same_most { self.new.most ≡ self.old.most }
+        ensures same { SameFeed self.old self.new }
         ensures kept { let all = files_in self.old.sources in
             KeepsOthers all (F.told files.old) (F.told files.new) }
         ensures cause { let all = files_in self.old.sources in
@@ -221,9 +216,7 @@ impl Feed {
             StandsByPort start given self.old (F.told files.old) →
             FeedsAt port start given self.new (F.told files.new) result }
         ensures counts { CountsAt port self.old self.new result }
-        ensures same_files { files_in self.new.sources ≡ files_in self.old.sources }
-        ensures same_six { sixes_in self.new.sources ≡ sixes_in self.old.sources }
-        ensures same_most { self.new.most ≡ self.old.most }
+        ensures same { SameFeed self.old self.new }
         ensures kept { let all = files_in self.old.sources in
             KeepsOthers all (F.told files.old) (F.told files.new) }
         ensures cause { let all = files_in self.old.sources in

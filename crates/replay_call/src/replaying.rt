@@ -1,10 +1,11 @@
 //! A replay, from its files to what is printed of it.
 //!
 //! Each function goes on from where a replay came, whatever was there before it began.
-ghost use Rattle.std.specs.Prelude.{◌≡◌, ◌+◌, ◌≤◌, ◌++◌, [], ◌∷◌, length, map, IfSome, string_bytes};
+ghost use Rattle.std.specs.Prelude.{◌≡◌, ◌+◌, ◌≤◌, [], ◌∷◌, length, map, IfSome, string_bytes};
 ghost use Rattle.nf_files.specs.Told.{IsRead};
 ghost use Rattle.nf_base.specs.Functions.{function_of};
-ghost use Rattle.packet_feed.specs.Told.{EachFile, IsApart};
+ghost use Rattle.packet_feed.specs.Told.{EachFile};
+ghost use Rattle.replay_run.specs.Given.{AreRead};
 ghost use Rattle.replay_run.specs.Queues.{lent};
 ghost use Rattle.replay_run.specs.declared.result.ReplayResult.TheVariants.{Same};
 ghost use Rattle.command_words.specs.View as view;
@@ -97,11 +98,8 @@ fn replay_keyed<F: Files>(
     requires fresh { let f = function_of job.now.func.now in
         IsFresh f job.now.command.now.most captures.now feed.old }
     requires all { length captures.now ≡ job.now.layout.ports }
-    requires as_many { length outputs.now ≡ job.now.layout.ports }
     requires read { EachFile (IsRead (F.told files.old)) captures.now }
-    requires opened { EachFile (IsRead (F.told files.old)) outputs.now }
-    requires opened_journal { IsRead (F.told files.old) begun.lines.file }
-    requires apart { IsApart (captures.now ++ begun.lines.file ∷ outputs.now) }
+    requires files { AreRead captures.now begun.lines.file outputs.now (F.told files.old) }
     ensures replays { let now = seen (F.told files.old) (F.counted files.old) in
         (before : Outside) → IsJob before job.now →
         HasBegun before now job.now captures.now feed.old begun outputs.now →
@@ -131,11 +129,8 @@ fn replay_begun<F: Files>(
     requires fresh { let f = function_of job.now.func.now in
         IsFresh f job.now.command.now.most captures.now feed.old }
     requires all { length captures.now ≡ job.now.layout.ports }
-    requires as_many { length outputs.now ≡ job.now.layout.ports }
     requires read { EachFile (IsRead (F.told files.old)) captures.now }
-    requires opened { EachFile (IsRead (F.told files.old)) outputs.now }
-    requires opened_journal { IsRead (F.told files.old) begun.lines.file }
-    requires apart { IsApart (captures.now ++ begun.lines.file ∷ outputs.now) }
+    requires files { AreRead captures.now begun.lines.file outputs.now (F.told files.old) }
     ensures replays { let now = seen (F.told files.old) (F.counted files.old) in
         (before : Outside) → IsJob before job.now →
         HasBegun before now job.now captures.now feed.old begun outputs.now →
@@ -173,11 +168,8 @@ fn replay_ready<F: Files>(
     requires fresh { let f = function_of job.now.func.now in
         IsFresh f job.now.command.now.most captures.now feed.old }
     requires all { length captures.now ≡ job.now.layout.ports }
-    requires as_many { length outputs.now ≡ job.now.layout.ports }
     requires read { EachFile (IsRead (F.told files.old)) captures.now }
-    requires opened { EachFile (IsRead (F.told files.old)) outputs.now }
-    requires opened_journal { IsRead (F.told files.old) journal }
-    requires apart { IsApart (captures.now ++ journal ∷ outputs.now) }
+    requires files { AreRead captures.now journal outputs.now (F.told files.old) }
     ensures replays { let now = seen (F.told files.old) (F.counted files.old) in
         (before : Outside) → IsJob before job.now →
         HasReady before now job.now captures.now feed.old journal outputs.now →

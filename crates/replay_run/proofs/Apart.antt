@@ -1,10 +1,12 @@
 -- Captures, a journal and outputs, of which no file stands twice.
-use Rattle.std.proofs.Common.{◌≡◌, ◌≢◌, ℕ, zero, suc, ◌+◌, ◌<◌, List, [], ◌∷◌, ◌++◌, length, Some, refl, sym, subst, arith}
+use Rattle.std.proofs.Common.{◌≡◌, ◌≢◌, ℕ, zero, suc, ◌+◌, ◌<◌, ◌∙◌, List, [], ◌∷◌, ◌++◌, length, Some, refl, sym, subst, arith}
 use Rattle.std.specs.List.{All, AllByRecursion, slice_get}
 use Rattle.std.proofs.lemmas.List.Elements.{All-from_recursion}
 use Rattle.std.proofs.lemmas.Option.{slice_get_within}
+use Rattle.nf_files.specs.Told.{Told}
 use Rattle.packet_feed.specs.Told.{IsApart}
 use Rattle.packet_feed.proofs.Standing.{at_file}
+use Rattle.replay_run.specs.Given.{AreBeside, AreRead}
 use Rattle.replay_run.specs.Turns.{AreClear}
 
 got_left : (xs ys : List ℕ) (k f : ℕ) → slice_get xs k ≡ Some f → slice_get (xs ++ ys) k ≡ Some f
@@ -52,3 +54,23 @@ not_right file ys apart = all_by_place (λ f. f ≢ file) ys (λ k f e. apart (s
 
 pub tail_apart : (file : ℕ) (ys : List ℕ) → IsApart (file ∷ ys) → IsApart ys
 tail_apart file ys apart i j f g p q ne = apart (suc i) (suc j) f g p q (λ same. ne (omega (arith, same)))
+
+-- ---- files that are read beside one another
+
+pub are_beside : (captures : List ℕ) (journal : ℕ) (outputs : List ℕ) (told : Told) → AreRead captures journal outputs told → AreBeside captures outputs told
+are_beside captures journal outputs told h = record {
+  opened = h.opened_outputs;
+  apart = tail_apart journal outputs (apart_right captures (journal ∷ outputs) h.apart);
+  clear = without captures journal outputs (clear_of captures (journal ∷ outputs) h.apart);
+  few = h.few;
+}
+
+pub no_capture : (captures : List ℕ) (journal : ℕ) (outputs : List ℕ) (told : Told) → AreRead captures journal outputs told → All (λ (f : ℕ). f ≢ journal) captures
+no_capture captures journal outputs told h = not_left captures journal outputs (clear_of captures (journal ∷ outputs) h.apart)
+
+pub no_output : (captures : List ℕ) (journal : ℕ) (outputs : List ℕ) (told : Told) → AreRead captures journal outputs told → All (λ (f : ℕ). f ≢ journal) outputs
+no_output captures journal outputs told h = not_right journal outputs (apart_right captures (journal ∷ outputs) h.apart)
+
+-- files stay open
+pub beside_on : (captures outputs : List ℕ) (old new : Told) → ((g : ℕ) → new.kind g ≡ old.kind g) → AreBeside captures outputs old → AreBeside captures outputs new
+beside_on captures outputs old new kinds h = record { opened = λ k file e. kinds file ∙ h.opened k file e; apart = h.apart; clear = h.clear; few = h.few }

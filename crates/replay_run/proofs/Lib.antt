@@ -11,3 +11,4 @@ mod Fetching
 mod Finishing
 mod Orders
 mod Accepted
+mod Judged

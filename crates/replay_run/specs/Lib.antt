@@ -4,3 +4,4 @@ pub mod Replaying
 pub mod Turns
 pub mod Heads
 pub mod Laws
+pub mod Given

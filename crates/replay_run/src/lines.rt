@@ -1,21 +1,19 @@
 //! The lines of a journal, one after another.
-ghost use Rattle.std.specs.Prelude.{◌≡◌, ◌^◌, ◌≢◌, ◌≤◌, ◌++◌, ◌∷◌, [], ◌<◌, ℕ, List, Option, Some, true, length, slice_get, IfSome};
+ghost use Rattle.std.specs.Prelude.{◌≡◌, ◌∷◌, [], ◌<◌, ℕ, List, Option, Some, true, length, slice_get};
 ghost use Rattle.std.specs.List.{All};
 ghost use Rattle.nf_base.specs.Functions.{function_of};
-ghost use Rattle.nf_base.specs.Doors.{six_ports};
 ghost use Rattle.nf_files.specs.Told.{Told, IsRead};
 ghost use Rattle.nf_files.specs.Reads.{Keeps};
-ghost use Rattle.packet_feed.specs.Told.{EachFile, IsApart, KeepsOthers};
-ghost use Rattle.packet_feed.specs.Sources.{files_in, sixes_in};
 ghost use Rattle.run_history.specs.declared.line.JournalLine.{JournalLine};
-ghost use Rattle.rss_table.specs.Tables.{even_table};
 ghost use Rattle.file_match.specs.Comparing.{Comparing};
 ghost use Rattle.journal_read.specs.Journals.{Stands, Gives};
-ghost use Rattle.stream_run.specs.Writing.{IsStopCause, StopsAt, StopsAmong};
+ghost use Rattle.stream_run.specs.Given.{HasCaptures};
+ghost use Rattle.stream_run.specs.Writing.{IsStopCause, StopsAt};
+ghost use Rattle.replay_run.specs.Given.{CanJudge, AreRead, ReadOn};
 ghost use Rattle.replay_run.specs.Outputs.{files_of};
-ghost use Rattle.replay_run.specs.Queues.{keys_in, IsKeyed};
+ghost use Rattle.replay_run.specs.Queues.{keys_in};
 ghost use Rattle.replay_run.specs.Replaying.{IsRun};
-ghost use Rattle.replay_run.specs.Turns.{AreClear, Begins, Reads, IsEnd, IsNotWrong, beside_of};
+ghost use Rattle.replay_run.specs.Turns.{Begins, Reads, IsEnd, IsNotWrong, beside_of};
 
 use crate::outputs::compare_headers;
 use crate::turn::one_turn;
@@ -103,30 +101,15 @@ pub(crate) fn read_lines<F: Files>(
     format: CaptureFormat,
     outputs: &mut Seq<Compared>,
 ) -> Result<End, RunFault>
-    requires of_func { judge.old.tables.decls ≡ func.now.chains }
-    requires mode { judge.old.heading.mode ≡ mode }
-    requires keyed { IsKeyed judge.old.heading.mode keys }
-    requires keys { IfSome keys (λ k. length func.now.handlers ≤ length k.now.ports) }
-    requires table { let workers = judge.old.heading.workers in
-        IfSome keys (λ k. table.now ≡ even_table k.now.table workers) }
-    requires some { 0 < judge.old.heading.workers }
+    requires judges { CanJudge func.now keys table.now mode judge.old }
     // No line was judged yet.
     requires opens { let heading = judge.old.heading in
         IsRun (function_of func.now) (keys_in keys) heading [] judge.old.tables.state }
-    requires captures { files_in feed.old.sources ≡ captures.now }
-    requires ports { length captures.now ≡ length func.now.handlers }
-    requires six { sixes_in feed.old.sources ≡ six_ports (function_of func.now) }
+    requires captures { HasCaptures func.now captures.now feed.old (F.told files.old) }
     requires new { feed.old.given ≡ 0 }
     requires most { feed.old.most ≡ most }
-    requires read { EachFile (IsRead (F.told files.old)) captures.now }
-    requires opened { EachFile (IsRead (F.told files.old)) (files_of outputs.old) }
-    requires opened_journal { IsRead (F.told files.old) journal.old.file }
-    requires apart { IsApart (files_of outputs.old) }
-    requires clear { AreClear captures.now (files_of outputs.old) }
-    requires no_capture { All (λ f. f ≢ journal.old.file) captures.now }
-    requires no_output { All (λ f. f ≢ journal.old.file) (files_of outputs.old) }
-    requires as_many { length outputs.old ≡ length captures.now }
-    requires few { length outputs.old ≤ 2 ^ 32 }
+    requires files { let others = files_of outputs.old in
+        AreRead captures.now journal.old.file others (F.told files.old) }
     requires fresh { (k : ℕ) → (c : Comparing) → slice_get outputs.old k ≡ Some c → c.same ≡ true }
     ensures reads_all { let ports = length captures.now in
         let heading = judge.old.heading in
@@ -136,11 +119,9 @@ pub(crate) fn read_lines<F: Files>(
         (beside_of format feed.old start bytes (files_of outputs.old) (F.told files.old) most)
         (F.told files.old).rest (F.told files.new) outputs.new judge.new.tables.state result }
     ensures same_outputs { files_of outputs.new ≡ files_of outputs.old }
-    ensures kept { let all = captures.now ++ journal.old.file ∷ files_of outputs.old in
-        KeepsOthers all (F.told files.old) (F.told files.new) }
-    ensures cause { IsStopCause (F.counted files.old) (F.counted files.new) result }
-    ensures among { let others = journal.old.file ∷ files_of outputs.old in
-        StopsAmong captures.now others result }
+    ensures read { let others = journal.old.file ∷ files_of outputs.old in
+        ReadOn captures.now others (F.told files.old) (F.told files.new)
+        (F.counted files.old) (F.counted files.new) result }
 {
     let mut buffer = match compare_headers(alloc, files, format, outputs) {
         Ok(buffer) => buffer,

@@ -1,10 +1,10 @@
 //! The packets that the lines of a journal are of.
-ghost use Rattle.std.specs.Prelude.{◌≡◌, ◌^◌, ◌<◌, ℕ, [], length};
-ghost use Rattle.nf_files.specs.Told.{IsRead};
-ghost use Rattle.packet_feed.specs.Told.{EachFile, KeepsOthers};
-ghost use Rattle.packet_feed.specs.Sources.{files_in, sixes_in};
+ghost use Rattle.std.specs.Prelude.{◌<◌, []};
+ghost use Rattle.packet_feed.specs.Told.{KeepsOthers};
 ghost use Rattle.run_history.specs.declared.line.Mode.TheVariants.{One, Lock};
+ghost use Rattle.stream_run.specs.Given.{ReadsFrom};
 ghost use Rattle.stream_run.specs.Writing.{IsStopCause, StopsAmong};
+ghost use Rattle.packet_feed.specs.Feeding.{SameFeed};
 ghost use Rattle.replay_run.specs.Turns.{Fetches, CountsOne};
 
 use journal_check::port_of;
@@ -21,14 +21,11 @@ fn next_of_all<F: Files>(
     captures: &[u32],
     line: &JournalLine,
 ) -> Result<Option<Packet>, RunFault>
-    requires captures { files_in feed.old.sources ≡ captures.now }
+    requires captures { ReadsFrom captures.now feed.old (F.told files.old) }
     requires room { feed.old.given < feed.old.most }
-    requires read { EachFile (IsRead (F.told files.old)) captures.now }
     ensures fetches { Fetches One line.now feed.old feed.new (F.told files.old) (F.told files.new) result }
     ensures counts { CountsOne feed.old feed.new result }
-    ensures same_captures { files_in feed.new.sources ≡ files_in feed.old.sources }
-    ensures same_six { sixes_in feed.new.sources ≡ sixes_in feed.old.sources }
-    ensures same_most { feed.new.most ≡ feed.old.most }
+    ensures same { SameFeed feed.old feed.new }
     ensures kept { KeepsOthers captures.now (F.told files.old) (F.told files.new) }
     ensures cause { IsStopCause (F.counted files.old) (F.counted files.new) result }
     ensures among { StopsAmong captures.now [] result }
@@ -48,14 +45,11 @@ fn next_of_port<F: Files>(
     captures: &[u32],
     line: &JournalLine,
 ) -> Result<Option<Packet>, RunFault>
-    requires captures { files_in feed.old.sources ≡ captures.now }
+    requires captures { ReadsFrom captures.now feed.old (F.told files.old) }
     requires room { feed.old.given < feed.old.most }
-    requires read { EachFile (IsRead (F.told files.old)) captures.now }
     ensures fetches { Fetches Lock line.now feed.old feed.new (F.told files.old) (F.told files.new) result }
     ensures counts { CountsOne feed.old feed.new result }
-    ensures same_captures { files_in feed.new.sources ≡ files_in feed.old.sources }
-    ensures same_six { sixes_in feed.new.sources ≡ sixes_in feed.old.sources }
-    ensures same_most { feed.new.most ≡ feed.old.most }
+    ensures same { SameFeed feed.old feed.new }
     ensures kept { KeepsOthers captures.now (F.told files.old) (F.told files.new) }
     ensures cause { IsStopCause (F.counted files.old) (F.counted files.new) result }
     ensures among { StopsAmong captures.now [] result }
@@ -83,14 +77,11 @@ pub(crate) fn packet_for<F: Files>(
     captures: &[u32],
     line: &JournalLine,
 ) -> Result<Option<Packet>, RunFault>
-    requires captures { files_in feed.old.sources ≡ captures.now }
+    requires captures { ReadsFrom captures.now feed.old (F.told files.old) }
     requires room { feed.old.given < feed.old.most }
-    requires read { EachFile (IsRead (F.told files.old)) captures.now }
     ensures fetches { Fetches mode line.now feed.old feed.new (F.told files.old) (F.told files.new) result }
     ensures counts { CountsOne feed.old feed.new result }
-    ensures same_captures { files_in feed.new.sources ≡ files_in feed.old.sources }
-    ensures same_six { sixes_in feed.new.sources ≡ sixes_in feed.old.sources }
-    ensures same_most { feed.new.most ≡ feed.old.most }
+    ensures same { SameFeed feed.old feed.new }
     ensures kept { KeepsOthers captures.now (F.told files.old) (F.told files.new) }
     ensures cause { IsStopCause (F.counted files.old) (F.counted files.new) result }
     ensures among { StopsAmong captures.now [] result }

@@ -1,14 +1,14 @@
 //! A journal and outputs, replayed.
-ghost use Rattle.std.specs.Prelude.{◌≡◌, ◌↔◌, ◌^◌, ◌<◌, ◌≤◌, ◌++◌, ◌∷◌, [], ℕ, List, Option, IsTrue, length, IfOk, IfSome};
+ghost use Rattle.std.specs.Prelude.{◌≡◌, ◌↔◌, ◌^◌, ◌<◌, ◌≤◌, ◌∷◌, [], ℕ, List, Option, IsTrue, length, IfOk, IfSome};
 ghost use Rattle.nf_base.specs.Functions.{function_of};
-ghost use Rattle.nf_base.specs.Doors.{six_ports};
 ghost use Rattle.nf_files.specs.Told.{Told, IsRead};
 ghost use Rattle.nf_files.specs.Reads.{Keeps};
 ghost use Rattle.packet_feed.specs.Told.{EachFile, IsApart, KeepsOthers};
-ghost use Rattle.packet_feed.specs.Sources.{files_in, sixes_in};
 ghost use Rattle.run_history.specs.Headings.{IsHeading};
 ghost use Rattle.rss_table.specs.Tables.{even_table};
+ghost use Rattle.stream_run.specs.Given.{HasCaptures};
 ghost use Rattle.stream_run.specs.Writing.{IsStopCause, StopsAt, StopsAmong};
+ghost use Rattle.replay_run.specs.Given.{AreRead, ReadOn};
 ghost use Rattle.replay_run.specs.Outputs.{files_of, AreFound};
 ghost use Rattle.replay_run.specs.Queues.{lent, keys_in, IsKeyed};
 ghost use Rattle.replay_run.specs.Replaying.{IsRun, Replays, Finishes};
@@ -88,27 +88,18 @@ fn replay_with<F: Files>(
     requires keyed { IsKeyed header.mode keys }
     requires keys { IfSome keys (λ k. length func.now.handlers ≤ length k.now.ports) }
     requires of_card { IfSome keys (λ k. k.now.table ≡ header.card.table) }
-    requires captures { files_in feed.old.sources ≡ captures.now }
-    requires ports { length captures.now ≡ length func.now.handlers }
-    requires six { sixes_in feed.old.sources ≡ six_ports (function_of func.now) }
+    requires captures { HasCaptures func.now captures.now feed.old (F.told files.old) }
     requires new { feed.old.given ≡ 0 }
     requires most { feed.old.most ≡ most }
-    requires read { EachFile (IsRead (F.told files.old)) captures.now }
-    requires opened { EachFile (IsRead (F.told files.old)) outputs.now }
-    requires opened_journal { IsRead (F.told files.old) journal.old.file }
-    requires apart { IsApart (captures.now ++ journal.old.file ∷ outputs.now) }
-    requires as_many { length outputs.now ≡ length captures.now }
-    requires few { length outputs.now ≤ 2 ^ 32 }
+    requires files { AreRead captures.now journal.old.file outputs.now (F.told files.old) }
     ensures replays { (start : Told) → (bytes : Option (List ℕ)) →
         Begins header feed.old journal.old start bytes (F.told files.old) →
         Replays (IsRun (function_of func.now) (keys_in keys.entry) header)
         header (length captures.now)
         (beside_of format feed.old start bytes outputs.now (F.told files.old) most) result }
-    ensures kept { let all = captures.now ++ journal.old.file ∷ outputs.now in
-        KeepsOthers all (F.told files.old) (F.told files.new) }
-    ensures cause { IsStopCause (F.counted files.old) (F.counted files.new) result }
-    ensures among { let others = journal.old.file ∷ outputs.now in
-        StopsAmong captures.now others result }
+    ensures read { let others = journal.old.file ∷ outputs.now in
+        ReadOn captures.now others (F.told files.old) (F.told files.new)
+        (F.counted files.old) (F.counted files.new) result }
 {
     let table = table_of(&header);
     let mode = header.mode();
@@ -213,29 +204,20 @@ pub fn replay<F: Files>(
 ) -> Result<ReplayResult, RunFault>
     requires keys { IfSome keys (λ k. length func.now.handlers ≤ length k.now.ports) }
     requires of_card { IfSome keys (λ k. k.now.table ≡ begun.header.card.table) }
-    requires captures { files_in feed.old.sources ≡ captures.now }
-    requires ports { length captures.now ≡ length func.now.handlers }
-    requires six { sixes_in feed.old.sources ≡ six_ports (function_of func.now) }
+    requires captures { HasCaptures func.now captures.now feed.old (F.told files.old) }
     requires new { feed.old.given ≡ 0 }
     requires most { feed.old.most ≡ most }
-    requires read { EachFile (IsRead (F.told files.old)) captures.now }
-    requires opened { EachFile (IsRead (F.told files.old)) outputs.now }
-    requires opened_journal { IsRead (F.told files.old) begun.lines.file }
-    // No file stands there twice.
-    requires apart { IsApart (captures.now ++ begun.lines.file ∷ outputs.now) }
-    requires as_many { length outputs.now ≡ length captures.now }
-    requires few { length outputs.now ≤ 2 ^ 32 }
+    requires files { AreRead captures.now begun.lines.file outputs.now (F.told files.old) }
     // All lines are those of a run and the outputs are its, or the first line or the least output
     // that isn't is told, or there are more lines than were asked for.
     ensures comes { (start : Told) → (bytes : Option (List ℕ)) →
         Begins begun.header feed.old begun.lines start bytes (F.told files.old) →
         Comes (function_of func.now) (lent keys.entry) begun.header (length captures.now)
         (beside_of format feed.old start bytes outputs.now (F.told files.old) most) result }
-    ensures kept { let all = captures.now ++ begun.lines.file ∷ outputs.now in
-        KeepsOthers all (F.told files.old) (F.told files.new) }
-    ensures cause { IsStopCause (F.counted files.old) (F.counted files.new) result }
     // The file that failed is one of the captures, the journal or one of the outputs.
-    ensures among { StopsAmong captures.now (begun.lines.file ∷ outputs.now) result }
+    ensures read { let others = begun.lines.file ∷ outputs.now in
+        ReadOn captures.now others (F.told files.old) (F.told files.new)
+        (F.counted files.old) (F.counted files.new) result }
 {
     let OpenedJournal { lines, header } = begun;
     if !is_keyed(header.mode(), keys) {

@@ -1,17 +1,14 @@
 //! One line of a journal, and its packet.
-ghost use Rattle.std.specs.Prelude.{◌≡◌, ◌^◌, ◌<◌, ◌≤◌, ◌+◌, ◌++◌, ℕ, Ok, true, length, IfSome};
-ghost use Rattle.nf_files.specs.Told.{IsRead};
+ghost use Rattle.std.specs.Prelude.{◌≡◌, ◌<◌, ℕ, Ok, true, length, IfSome};
 ghost use Rattle.nf_base.specs.Functions.{function_of};
-ghost use Rattle.nf_base.specs.Doors.{six_ports};
-ghost use Rattle.nf_engine.specs.View.{fixed_of};
-ghost use Rattle.packet_feed.specs.Told.{EachFile, IsApart, KeepsOthers};
-ghost use Rattle.packet_feed.specs.Sources.{files_in, sixes_in};
 ghost use Rattle.rss_table.specs.Tables.{even_table};
-ghost use Rattle.stream_run.specs.Writing.{IsStopCause, StopsAmong};
+ghost use Rattle.packet_feed.specs.Feeding.{SameFeed};
+ghost use Rattle.replay_run.specs.Given.{CanJudge, SameJudge, AreBeside, ReadOn};
 ghost use Rattle.replay_run.specs.Outputs.{files_of};
-ghost use Rattle.replay_run.specs.Queues.{queue_in, keys_in, IsKeyed};
+ghost use Rattle.replay_run.specs.Queues.{queue_in, keys_in};
 ghost use Rattle.replay_run.specs.Replaying.{IsRun};
-ghost use Rattle.replay_run.specs.Turns.{AreClear, Turns, Counts};
+ghost use Rattle.replay_run.specs.Turns.{Turns, Counts};
+ghost use Rattle.stream_run.specs.Given.{HasCaptures};
 
 use crate::outputs::compare_all;
 use crate::packets::packet_for;
@@ -57,37 +54,20 @@ pub(crate) fn one_turn<F: Files>(
     format: CaptureFormat,
     line: &JournalLine,
 ) -> Result<bool, RunFault>
-    requires of_func { judge.old.tables.decls ≡ func.now.chains }
-    requires mode { judge.old.heading.mode ≡ mode }
-    requires keyed { IsKeyed judge.old.heading.mode keys }
-    requires keys { IfSome keys (λ k. length func.now.handlers ≤ length k.now.ports) }
-    requires table { let workers = judge.old.heading.workers in
-        IfSome keys (λ k. table.now ≡ even_table k.now.table workers) }
-    requires some { 0 < judge.old.heading.workers }
-    requires captures { files_in feed.old.sources ≡ captures.now }
-    requires ports { length captures.now ≡ length func.now.handlers }
-    requires six { sixes_in feed.old.sources ≡ six_ports (function_of func.now) }
+    requires judges { CanJudge func.now keys table.now mode judge.old }
+    requires captures { HasCaptures func.now captures.now feed.old (F.told files.old) }
     requires room { feed.old.given < feed.old.most }
-    requires read { EachFile (IsRead (F.told files.old)) captures.now }
-    requires opened { EachFile (IsRead (F.told files.old)) (files_of outputs.old) }
-    requires apart { IsApart (files_of outputs.old) }
-    requires clear { AreClear captures.now (files_of outputs.old) }
-    requires few { length outputs.old ≤ 2 ^ 32 }
+    requires beside { AreBeside captures.now (files_of outputs.old) (F.told files.old) }
     ensures turns { let heading = judge.old.heading in
         Turns (IsRun (function_of func.now) (keys_in keys.entry) heading) heading.mode format line.now
         judge.old.tables.state judge.new.tables.state feed.old feed.new
         (F.told files.old) (F.told files.new) outputs.old outputs.new result }
-    ensures same { fixed_of judge.new.tables ≡ fixed_of judge.old.tables }
-    ensures same_heading { judge.new.heading ≡ judge.old.heading }
+    ensures same { SameJudge judge.old judge.new }
     ensures same_outputs { files_of outputs.new ≡ files_of outputs.old }
-    ensures same_captures { files_in feed.new.sources ≡ files_in feed.old.sources }
-    ensures same_six { sixes_in feed.new.sources ≡ sixes_in feed.old.sources }
-    ensures same_most { feed.new.most ≡ feed.old.most }
+    ensures same_feed { SameFeed feed.old feed.new }
     ensures counts { Counts feed.old feed.new result }
-    ensures kept { let all = captures.now ++ files_of outputs.old in
-        KeepsOthers all (F.told files.old) (F.told files.new) }
-    ensures cause { IsStopCause (F.counted files.old) (F.counted files.new) result }
-    ensures among { StopsAmong captures.now (files_of outputs.old) result }
+    ensures read { ReadOn captures.now (files_of outputs.old) (F.told files.old)
+        (F.told files.new) (F.counted files.old) (F.counted files.new) result }
 {
     match packet_for(files, feed, mode, captures, line) {
         Ok(Some(packet)) => {

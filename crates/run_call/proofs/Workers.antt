@@ -8,11 +8,11 @@ use Rattle.nf_base.specs.declared.keys.Keys.{Keys}
 use Rattle.nf_base.specs.declared.card.Card.{Card}
 use Rattle.nf_base.specs.declared.done.Done.{Done}
 use Rattle.nf_base.specs.declared.state.State.{State}
-use Rattle.nf_files.specs.Told.{IsToldAs}
+use Rattle.nf_files.specs.Told.{IsToldAs, IsRead, IsWritten}
 use Rattle.nf_files.specs.Causes.{asking}
 use Rattle.packet_feed.specs.Arrivals.{Arrival}
 use Rattle.packet_feed.specs.Order.{in_order}
-use Rattle.packet_feed.specs.Told.{packets_of}
+use Rattle.packet_feed.specs.Told.{packets_of, EachFile}
 use Rattle.packet_feed.specs.Sources.{files_in, sixes_in}
 use Rattle.packet_feed.specs.Feeding.{Feeding, StandsFor, first_tear, tears_in}
 use Rattle.packet_feed.proofs.Standing.{stands_among}
@@ -26,6 +26,7 @@ use Rattle.sharded_run.specs.Lawful as shards
 use Rattle.locked_run.specs.declared.result.LockedResult.{LockedResult}
 use Rattle.locked_run.specs.Locked.{IsDue}
 use Rattle.locked_run.specs.Lawful as tables
+use Rattle.stream_run.specs.Given.{HasCaptures, HasTargets}
 use Rattle.stream_run.specs.Runs.{Run, arrival_in, course_of}
 use Rattle.stream_run.specs.Rules.{Rule, one_rule, shard_rule, lock_rule, IsRunBy}
 use Rattle.stream_run.specs.Texts.{file_bytes}
@@ -46,7 +47,7 @@ use Rattle.call_base.specs.Named.{IsToldStop}
 use Rattle.call_base.specs.Names.{name_at, created_by}
 use Rattle.call_base.specs.Opened.{AreAllCreated, AreSomeCreated, AsksSome}
 use Rattle.call_base.specs.Outside.{Outside}
-use Rattle.call_base.proofs.Ending.{has_made, broken_running, broken_creating}
+use Rattle.call_base.proofs.Ending.{has_made, broken_running, broken_creating, targets_empty}
 use Rattle.call_base.proofs.Reading.{file_in, fed_next, fed_only, captures_from, all_captures, packets_fed}
 use Rattle.run_call.specs.declared.worker_plan.WorkerPlan.{WorkerPlan}
 use Rattle.run_call.specs.declared.worker_plan.WorkerPlan.TheVariants as worker_plan
@@ -290,3 +291,22 @@ pub tables_halted : (Refused : Type 0) (before a b : Outside) (job : Job) (captu
 tables_halted Refused before a b job captures targets feed stop is several h cut kept cause among =
     let first = cut.packets h.fed.old.told (ready_stands before a job captures targets feed h) in
     halted_at before a b job captures targets feed stop cut.given cut.run is h (several_of Refused before h.created.old job captures feed cut.rule cut.given cut.run is several.0 (tables_due Refused job cut.rule several cut.due) h.fed cut.is_run cut.within first) kept cut.fronts cause among
+
+-- ---- what a run is given
+
+pub has_captures : (before now : Outside) (job : Job) (captures targets : List ℕ) (feed : Feeding) → IsJob before.told job → HasReady before now job captures targets feed → EachFile (IsRead now.told) captures → HasCaptures job.func.now captures feed now.told
+has_captures before now job captures targets feed is ready opened = record {
+  reads = record { files = ready.fed.fresh.files; opened = opened };
+  six = ready.fed.fresh.six;
+  ports = ready.fed.opened.all ∙ sym is.ports ∙ sym is.handlers;
+}
+
+pub has_targets : (before now : Outside) (job : Job) (captures targets : List ℕ) (feed : Feeding) → IsJob before.told job → HasReady before now job captures targets feed → EachFile (IsWritten now.told) targets → HasTargets job.func.now targets now.told
+has_targets before now job captures targets feed is ready created =
+    let made = ready.created.created in
+    record {
+      writable = record { created = created; apart = λ i j f k p q ne e. ne (omega (arith, made.numbers i f p, made.numbers j k q, e)) };
+      as_many = made.all ∙ ap (λ (n : ℕ). n + 1) (sym is.ports ∙ sym is.handlers);
+      few = omega (arith, made.all, is.ports, is.few);
+      empty = targets_empty ready.created;
+    }

@@ -4,7 +4,6 @@ pub mod Answered
 pub mod Lined
 pub mod Lines
 pub mod Endings
-pub mod Went
 pub mod Passed
 pub mod Flowed
 pub mod Complete

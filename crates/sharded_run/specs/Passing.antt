@@ -8,7 +8,7 @@ use Rattle.nf_base.specs.Doors.{six_ports}
 use Rattle.nf_base.specs.Functions.{function_of}
 use Rattle.capture_format.specs.declared.format.CaptureFormat.{CaptureFormat}
 use Rattle.nf_files.specs.Told.{Told}
-use Rattle.nf_files.specs.Causes.{Counted}
+use Rattle.pcap_file.specs.Record.{greatest_time}
 use Rattle.packet_feed.specs.Arrivals.{Arrival, packet_of}
 use Rattle.packet_feed.specs.Sources.{sixes_in}
 use Rattle.packet_feed.specs.Feeding.{Feeding}
@@ -19,10 +19,9 @@ use Rattle.shard_core.specs.declared.collected.Collected.{Collected}
 use Rattle.shard_core.specs.declared.collected.Stop as share
 use Rattle.ring_line.specs.Lines.{LineStands, HasRoom, StandsAtStop}
 use Rattle.stream_run.specs.declared.ending.Ending.{Ending}
-use Rattle.stream_run.specs.declared.fault.RunFault.{RunFault}
 use Rattle.stream_run.specs.Runs.{Handled}
 use Rattle.stream_run.specs.Rules.{queue_by}
-use Rattle.stream_run.specs.Writing.{Holding, files_of, AreHeld, AreFronts, KeepsBut, IsStopCause, StopsAmong}
+use Rattle.stream_run.specs.Writing.{Holding, files_of, AreHeld, AreFronts}
 use Rattle.sharded_run.specs.declared.result.RunEnd as ended
 use Rattle.sharded_run.specs.declared.result.RunEnd.TheVariants as end
 use Rattle.sharded_run.specs.declared.result.ReadResult as passed
@@ -32,14 +31,12 @@ use Rattle.sharded_run.specs.declared.crew.Crew.{Crew}
 use Rattle.sharded_run.specs.Reading.{Gathers, IsOver}
 use Rattle.sharded_run.specs.Answered.{answered}
 
--- ---- what changes of files
+-- ---- one packet
 
--- nothing but these files and what is left of captures changed, and a fault of them is told
-pub record WentOn {T : Type 0} (captures files : List ℕ) (old new : Told) (before after : Counted)
-    (result : Result T RunFault) : Type 0 where
-  pub kept : KeepsBut files old new
-  pub cause : IsStopCause before after result
-  pub among : StopsAmong captures files result
+-- its time and its frame are no larger than those of a record
+pub record Fits (packet : Packet) (frame : List ℕ) : Type 0 where
+  pub time : packet.time ≤ greatest_time
+  pub captured : length frame ≤ 262144
 
 -- ---- the workers
 

@@ -1,21 +1,20 @@
 //! Packets are read, handed to their workers, and what they leave is written as their answers come.
-ghost use Rattle.std.specs.Prelude.{◌≡◌, ◌^◌, ◌<◌, ◌≤◌, ℕ, List, length, IfErr};
+ghost use Rattle.std.specs.Prelude.{◌≡◌, ◌<◌, ◌≤◌, ℕ, List, length, IfErr};
 ghost use Rattle.nf_base.specs.declared.card.Card.{Card};
 ghost use Rattle.capture_format.specs.declared.format.CaptureFormat.{CaptureFormat};
-ghost use Rattle.nf_files.specs.Told.{Told, IsRead, IsWritten};
-ghost use Rattle.pcap_file.specs.Record.{greatest_time};
+ghost use Rattle.nf_files.specs.Told.{Told};
 ghost use Rattle.packet_feed.specs.Arrivals.{Arrival};
-ghost use Rattle.packet_feed.specs.Told.{EachFile, IsApart};
-ghost use Rattle.packet_feed.specs.Sources.{files_in, sixes_in};
-ghost use Rattle.packet_feed.specs.Feeding.{Feeding, frame_of, shown};
+ghost use Rattle.packet_feed.specs.Sources.{files_in};
+ghost use Rattle.packet_feed.specs.Feeding.{Feeding, SameFeed, frame_of, shown};
 ghost use Rattle.shard_machine.specs.Machine.{Setup};
 ghost use Rattle.ring_line.specs.Lines.{HasRoom, LineHasAnswer};
 ghost use Rattle.ring_line.specs.QueueWorkers.{CanHandle};
 ghost use Rattle.stream_run.specs.declared.fault.RunFault.TheVariants as stops;
-ghost use Rattle.stream_run.specs.Writing.{Holding, files_of};
+ghost use Rattle.stream_run.specs.Given.{AreWritable, ReadsFrom};
+ghost use Rattle.stream_run.specs.Writing.{Holding, files_of, WentOn};
 ghost use Rattle.stream_run.specs.Rules.{queue_by};
 ghost use Rattle.sharded_run.specs.Reading.{Gathers};
-ghost use Rattle.sharded_run.specs.Passing.{WentOn, Passing, Wrote, WroteOne, SameCrew, SameButOne, HasMade, SentSo, HandedOut, HasMet, Suits, PassedSo};
+ghost use Rattle.sharded_run.specs.Passing.{Passing, Wrote, WroteOne, SameCrew, SameButOne, HasMade, SentSo, HandedOut, HasMet, Suits, PassedSo, Fits};
 
 use crate::crew::Crew;
 use crate::frames::fits;
@@ -42,9 +41,7 @@ fn write_ready<F: Files, G: Turns + Drop>(
 ) -> Result<(), RunFault>
     requires ready { LineHasAnswer crew.old.line }
     requires some { 0 < length crew.old.frames }
-    requires created { EachFile (IsWritten (F.told files.old)) (files_of sinks.old) }
-    requires apart { IsApart (files_of sinks.old) }
-    requires few { length sinks.old ≤ 2 ^ 32 }
+    requires writable { AreWritable (F.told files.old) (files_of sinks.old) }
     ensures wrote { (x : Setup) → (card : Card) → (format : CaptureFormat) → (all : List Arrival) →
         Passing x card format (F.told files.old) crew.old sinks.old all →
         WroteOne x card format (F.told files.new) crew.new sinks.new all result }
@@ -80,9 +77,7 @@ fn write_come<F: Files, G: Turns + Drop>(
     crew: &mut Crew<G>,
     sinks: &mut Seq<Sink>,
 ) -> Result<(), RunFault>
-    requires created { EachFile (IsWritten (F.told files.old)) (files_of sinks.old) }
-    requires apart { IsApart (files_of sinks.old) }
-    requires few { length sinks.old ≤ 2 ^ 32 }
+    requires writable { AreWritable (F.told files.old) (files_of sinks.old) }
     ensures wrote { (x : Setup) → (card : Card) → (format : CaptureFormat) → (all : List Arrival) →
         Passing x card format (F.told files.old) crew.old sinks.old all →
         WroteOne x card format (F.told files.new) crew.new sinks.new all result }
@@ -113,9 +108,7 @@ pub(crate) fn write_next<R: Wait, F: Files, G: Turns + Drop>(
     sinks: &mut Seq<Sink>,
 ) -> Result<Option<shard_core::Stop>, RunFault>
     requires some { 0 < length crew.old.frames }
-    requires created { EachFile (IsWritten (F.told files.old)) (files_of sinks.old) }
-    requires apart { IsApart (files_of sinks.old) }
-    requires few { length sinks.old ≤ 2 ^ 32 }
+    requires writable { AreWritable (F.told files.old) (files_of sinks.old) }
     ensures wrote { (x : Setup) → (card : Card) → (format : CaptureFormat) → (all : List Arrival) →
         Passing x card format (F.told files.old) crew.old sinks.old all →
         Wrote x card format (F.told files.new) crew.new sinks.new all result }
@@ -143,9 +136,7 @@ fn make_room<R: Wait, F: Files, G: Turns + Drop>(
     queue: u32,
 ) -> Result<Option<shard_core::Stop>, RunFault>
     requires queue { queue < crew.old.router.workers }
-    requires created { EachFile (IsWritten (F.told files.old)) (files_of sinks.old) }
-    requires apart { IsApart (files_of sinks.old) }
-    requires few { length sinks.old ≤ 2 ^ 32 }
+    requires writable { AreWritable (F.told files.old) (files_of sinks.old) }
     ensures wrote { (x : Setup) → (card : Card) → (format : CaptureFormat) → (all : List Arrival) →
         Passing x card format (F.told files.old) crew.old sinks.old all →
         Wrote x card format (F.told files.new) crew.new sinks.new all result }
@@ -181,8 +172,7 @@ fn send<R: Wait, G: Turns + Drop>(
 ) -> Result<(), RunFault>
     requires queue { queue < crew.old.router.workers }
     requires room { HasRoom crew.old.line queue }
-    requires time { packet.now.time ≤ greatest_time }
-    requires captured { length (frame_of feed.now) ≤ 262144 }
+    requires fits { Fits packet.now (frame_of feed.now) }
     ensures sent { (x : Setup) → (card : Card) → (format : CaptureFormat) → (now : Told) →
         (sinks : List Holding) → (all : List Arrival) →
         Passing x card format now crew.old sinks all →
@@ -214,12 +204,9 @@ fn hand_out<R: Wait, F: Files, G: Turns + Drop>(
     sinks: &mut Seq<Sink>,
 ) -> Result<ReadResult, RunFault>
     requires port { packet.now.id.port < length crew.old.router.keys.ports }
-    requires time { packet.now.time ≤ greatest_time }
-    requires captured { length (frame_of feed.now) ≤ 262144 }
+    requires fits { Fits packet.now (frame_of feed.now) }
     requires fewer { length crew.old.frames < feed.now.given }
-    requires created { EachFile (IsWritten (F.told files.old)) (files_of sinks.old) }
-    requires apart { IsApart (files_of sinks.old) }
-    requires few { length sinks.old ≤ 2 ^ 32 }
+    requires writable { AreWritable (F.told files.old) (files_of sinks.old) }
     ensures handed { let queue = queue_by crew.old.router.keys crew.old.router.workers packet.now in
         (x : Setup) → (card : Card) → (format : CaptureFormat) → (all : List Arrival) →
         Passing x card format (F.told files.old) crew.old sinks.old all →
@@ -258,13 +245,10 @@ pub(crate) fn pass_one<R: Wait, F: Files, G: Turns + Drop>(
     captures: &[u32],
     sinks: &mut Seq<Sink>,
 ) -> Result<ReadResult, RunFault>
-    requires captures { files_in feed.old.sources ≡ captures.now }
+    requires captures { ReadsFrom captures.now feed.old (F.told files.old) }
     requires keyed { length captures.now ≤ length crew.old.router.keys.ports }
     requires fewer { length crew.old.frames ≤ feed.old.given }
-    requires opened { EachFile (IsRead (F.told files.old)) captures.now }
-    requires created { EachFile (IsWritten (F.told files.old)) (files_of sinks.old) }
-    requires apart { IsApart (files_of sinks.old) }
-    requires few { length sinks.old ≤ 2 ^ 32 }
+    requires writable { AreWritable (F.told files.old) (files_of sinks.old) }
     ensures passed { let ports = length captures.now in
         (x : Setup) → (card : Card) → (format : CaptureFormat) → (begun : Feeding) →
         (start : Told) → (all : List Arrival) → Suits x ports crew.old feed.old →
@@ -276,8 +260,7 @@ pub(crate) fn pass_one<R: Wait, F: Files, G: Turns + Drop>(
     ensures met { HasMet crew.new result }
     ensures same_files { files_of sinks.new ≡ files_of sinks.old }
     ensures same { SameButOne crew.old crew.new }
-    ensures fed { (files_in feed.new.sources ≡ files_in feed.old.sources)
-        × (sixes_in feed.new.sources ≡ sixes_in feed.old.sources) }
+    ensures fed { SameFeed feed.old feed.new }
     ensures fewer { length crew.new.frames ≤ feed.new.given }
     ensures went { WentOn captures.now (files_of sinks.old) (F.told files.old)
         (F.told files.new) (F.counted files.old) (F.counted files.new) result }

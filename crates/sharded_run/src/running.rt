@@ -1,21 +1,17 @@
 //! A whole run in mode `shard`.
-ghost use Rattle.std.specs.Prelude.{◌≡◌, ◌^◌, ◌+◌, ◌<◌, ◌≤◌, ℕ, List, [], length, slice_get, IfOk};
+ghost use Rattle.std.specs.Prelude.{◌≡◌, ◌+◌, ◌<◌, ◌≤◌, ℕ, List, [], length, IfOk};
 ghost use Rattle.nf_base.specs.declared.card.Card.{Card};
 ghost use Rattle.nf_base.specs.declared.keys.Keys as keys;
-ghost use Rattle.nf_base.specs.Doors.{six_ports};
 ghost use Rattle.nf_base.specs.Functions.{function_of};
 ghost use Rattle.capture_format.specs.declared.format.CaptureFormat.{CaptureFormat};
 ghost use Rattle.toeplitz_hash.specs.Meeting.{HashAlikeWhereTheyMeet};
-ghost use Rattle.nf_files.specs.Told.{IsEmptyIfTold, IsRead, IsWritten};
-ghost use Rattle.packet_feed.specs.Told.{EachFile, IsApart};
-ghost use Rattle.packet_feed.specs.Sources.{files_in, sixes_in};
 ghost use Rattle.run_history.specs.declared.line.Mode.TheVariants as mode;
 ghost use Rattle.vig_tables.specs.Union.{AreOf};
 ghost use Rattle.shard_core.specs.Sharded.{Sharded};
+ghost use Rattle.stream_run.specs.Given.{HasCaptures, HasTargets, AreWritable};
 ghost use Rattle.stream_run.specs.Runs.{Handled};
-ghost use Rattle.stream_run.specs.Writing.{files_of, AreHeld, KeepsBut, IsStopCause, StopsAmong};
+ghost use Rattle.stream_run.specs.Writing.{files_of, AreHeld, WentOn};
 ghost use Rattle.sharded_run.specs.Going.{HaveWorked, IsLast, IsMadeOf};
-ghost use Rattle.sharded_run.specs.Passing.{WentOn};
 ghost use Rattle.sharded_run.specs.Lawful.{Runs};
 
 use crate::crew::Crew;
@@ -84,14 +80,9 @@ fn stream<
     requires most { workers ≤ 16 }
     requires keyed { length func.now.handlers ≤ length keys.now.ports }
     requires alike { HashAlikeWhereTheyMeet (function_of func.now) keys.now }
-    requires captures { files_in feed.old.sources ≡ captures.now }
-    requires six { sixes_in feed.old.sources ≡ six_ports (function_of func.now) }
-    requires ports { length captures.now ≡ length func.now.handlers }
+    requires captures { HasCaptures func.now captures.now feed.old (F.told files.old) }
     requires new { feed.old.given ≡ 0 }
-    requires opened { EachFile (IsRead (F.told files.old)) captures.now }
-    requires created { EachFile (IsWritten (F.told files.old)) (files_of sinks.old) }
-    requires apart { IsApart (files_of sinks.old) }
-    requires few { length sinks.old ≤ 2 ^ 32 }
+    requires writable { AreWritable (F.told files.old) (files_of sinks.old) }
     // All files are held as they begin, with some card and outputs of some format.
     requires heads { let ports = length func.now.handlers in
         (card : Card) × (format : CaptureFormat)
@@ -155,25 +146,16 @@ pub fn run<
     requires several { 1 < workers }
     requires keyed { length func.now.handlers ≤ length keys.now.ports }
     requires alike { HashAlikeWhereTheyMeet (function_of func.now) keys.now }
-    requires captures { files_in feed.old.sources ≡ captures.now }
-    requires six { sixes_in feed.old.sources ≡ six_ports (function_of func.now) }
-    requires ports { length captures.now ≡ length func.now.handlers }
+    requires captures { HasCaptures func.now captures.now feed.old (F.told files.old) }
     requires new { feed.old.given ≡ 0 }
-    requires opened { EachFile (IsRead (F.told files.old)) captures.now }
-    requires created { EachFile (IsWritten (F.told files.old)) targets.now }
-    requires apart { IsApart targets.now }
-    requires as_many { length targets.now ≡ length func.now.handlers + 1 }
-    requires few { length targets.now ≤ 2 ^ 32 }
-    requires empty { (k : ℕ) → (file : ℕ) → slice_get targets.now k ≡ Some file →
-        IsEmptyIfTold ((F.told files.old).given file) }
+    requires targets { HasTargets func.now targets.now (F.told files.old) }
     // One run's files are whole, and it handled the first packets of the captures in capture order, or
     // those before a share stop; or each file holds a front of what such a run leaves there.
     ensures runs { Runs (function_of func.now) keys.now workers card format feed.old
         (F.told files.old) feed.new (F.told files.new) targets.now result }
-    ensures kept { KeepsBut targets.now (F.told files.old) (F.told files.new) }
-    ensures cause { IsStopCause (F.counted files.old) (F.counted files.new) result }
     // The file that failed is one of the captures or of the targets.
-    ensures among { StopsAmong captures.now targets.now result }
+    ensures went { WentOn captures.now targets.now (F.told files.old) (F.told files.new)
+        (F.counted files.old) (F.counted files.new) result }
 {
     let ports = func.handlers.len();
     let mode = Mode::Shard;

@@ -1,18 +1,18 @@
 //! All packets, one after another.
-ghost use Rattle.std.specs.Prelude.{◌≡◌, ◌^◌, ◌≤◌, ℕ, List, [], length};
+ghost use Rattle.std.specs.Prelude.{◌≡◌, ◌≤◌, ℕ, List, length};
 ghost use Rattle.nf_base.specs.declared.card.Card.{Card};
 ghost use Rattle.capture_format.specs.declared.format.CaptureFormat.{CaptureFormat};
-ghost use Rattle.nf_files.specs.Told.{Told, IsRead, IsWritten};
+ghost use Rattle.nf_files.specs.Told.{Told};
 ghost use Rattle.packet_feed.specs.Arrivals.{Arrival};
-ghost use Rattle.packet_feed.specs.Told.{EachFile, IsApart};
 ghost use Rattle.packet_feed.specs.Sources.{files_in};
 ghost use Rattle.packet_feed.specs.Feeding.{Feeding};
 ghost use Rattle.run_history.specs.declared.line.Mode.TheVariants as mode;
 ghost use Rattle.shard_machine.specs.Machine.{Setup};
-ghost use Rattle.stream_run.specs.Writing.{files_of, AreHeld, AreFronts};
+ghost use Rattle.stream_run.specs.Given.{AreWritable, ReadsFrom};
+ghost use Rattle.stream_run.specs.Writing.{files_of, AreHeld, AreFronts, WentOn};
 ghost use Rattle.sharded_run.specs.Reading.{Gathers, IsOver};
 ghost use Rattle.sharded_run.specs.Going.{AreWhole};
-ghost use Rattle.sharded_run.specs.Passing.{WentOn, Passing, SameCrew, Suits, FlowsSo};
+ghost use Rattle.sharded_run.specs.Passing.{Passing, SameCrew, Suits, FlowsSo};
 
 use crate::crew::Crew;
 use crate::passing::{pass_one, write_next};
@@ -36,9 +36,7 @@ fn drain<R: Wait, F: Files, G: Turns + Drop>(
     ending: Ending,
 ) -> Result<RunEnd, RunFault>
     requires fewer { length crew.old.frames ≤ feed.now.given }
-    requires created { EachFile (IsWritten (F.told files.old)) (files_of sinks.old) }
-    requires apart { IsApart (files_of sinks.old) }
-    requires few { length sinks.old ≤ 2 ^ 32 }
+    requires writable { AreWritable (F.told files.old) (files_of sinks.old) }
     ensures flows { (x : Setup) → (card : Card) → (format : CaptureFormat) → (ports : ℕ) →
         (begun : Feeding) → (start : Told) → (all : List Arrival) →
         Passing x card format (F.told files.old) crew.old sinks.old all →
@@ -81,13 +79,10 @@ fn pass_all<R: Wait, F: Files, G: Turns + Drop>(
     captures: &[u32],
     sinks: &mut Seq<Sink>,
 ) -> Result<RunEnd, RunFault>
-    requires captures { files_in feed.old.sources ≡ captures.now }
+    requires captures { ReadsFrom captures.now feed.old (F.told files.old) }
     requires keyed { length captures.now ≤ length crew.old.router.keys.ports }
     requires fewer { length crew.old.frames ≤ feed.old.given }
-    requires opened { EachFile (IsRead (F.told files.old)) captures.now }
-    requires created { EachFile (IsWritten (F.told files.old)) (files_of sinks.old) }
-    requires apart { IsApart (files_of sinks.old) }
-    requires few { length sinks.old ≤ 2 ^ 32 }
+    requires writable { AreWritable (F.told files.old) (files_of sinks.old) }
     ensures flows { let ports = length captures.now in
         (x : Setup) → (card : Card) → (format : CaptureFormat) → (begun : Feeding) →
         (start : Told) → (all : List Arrival) → Suits x ports crew.old feed.old →
@@ -124,13 +119,10 @@ pub(crate) fn flow<R: Wait, F: Files, G: Turns + Drop>(
     captures: &[u32],
     sinks: &mut Seq<Sink>,
 ) -> Result<RunEnd, RunFault>
-    requires captures { files_in feed.old.sources ≡ captures.now }
+    requires captures { ReadsFrom captures.now feed.old (F.told files.old) }
     requires keyed { length captures.now ≤ length crew.old.router.keys.ports }
     requires fewer { length crew.old.frames ≤ feed.old.given }
-    requires opened { EachFile (IsRead (F.told files.old)) captures.now }
-    requires created { EachFile (IsWritten (F.told files.old)) (files_of sinks.old) }
-    requires apart { IsApart (files_of sinks.old) }
-    requires few { length sinks.old ≤ 2 ^ 32 }
+    requires writable { AreWritable (F.told files.old) (files_of sinks.old) }
     ensures flows { let ports = length captures.now in
         (x : Setup) → (card : Card) → (format : CaptureFormat) → (begun : Feeding) →
         (start : Told) → (all : List Arrival) → Suits x ports crew.old feed.old →

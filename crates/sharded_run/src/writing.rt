@@ -1,11 +1,10 @@
 //! What a packet leaves is written.
 ghost use Rattle.std.specs.Prelude.{◌≡◌, ◌^◌, ◌≤◌, ◌∷◌, ◌++◌, [], ℕ, List, length};
-ghost use Rattle.nf_files.specs.Told.{IsWritten};
 ghost use Rattle.nf_base.specs.declared.card.Card.{Card};
 ghost use Rattle.capture_format.specs.declared.format.CaptureFormat.{CaptureFormat};
-ghost use Rattle.packet_feed.specs.Told.{EachFile, IsApart};
 ghost use Rattle.run_history.specs.declared.line.Mode.{Mode};
 ghost use Rattle.short_answers.specs.Answers.{done_told};
+ghost use Rattle.stream_run.specs.Given.{AreWritable};
 ghost use Rattle.stream_run.specs.Runs.{Handled};
 ghost use Rattle.stream_run.specs.Writing.{files_of, AreHeld, AllGoOn, KeepsAllBut, IsStopCause, StopsAmong};
 
@@ -27,9 +26,7 @@ fn write_one<F: Files>(
     queue: u32,
     done: &Done,
 ) -> Result<(), RunFault>
-    requires created { EachFile (IsWritten (F.told files.old)) (files_of sinks.old) }
-    requires apart { IsApart (files_of sinks.old) }
-    requires few { length sinks.old ≤ 2 ^ 32 }
+    requires writable { AreWritable (F.told files.old) (files_of sinks.old) }
     ensures goes_on { let h : Handled = record { arrival = kept.now; worker = queue; done = done.now } in
         (mode : Mode) → (workers : ℕ) → (card : Card) → (format : CaptureFormat) →
         (hs : List Handled) →
@@ -61,9 +58,7 @@ pub(crate) fn write_told<F: Files>(
     told: Told<'_>,
     plain: &mut PlainAnswer,
 ) -> Result<(), RunFault>
-    requires created { EachFile (IsWritten (F.told files.old)) (files_of sinks.old) }
-    requires apart { IsApart (files_of sinks.old) }
-    requires few { length sinks.old ≤ 2 ^ 32 }
+    requires writable { AreWritable (F.told files.old) (files_of sinks.old) }
     ensures goes_on { let h : Handled = record { arrival = kept.now; worker = queue; done = done_told told.entry } in
         (mode : Mode) → (workers : ℕ) → (card : Card) → (format : CaptureFormat) →
         (hs : List Handled) →

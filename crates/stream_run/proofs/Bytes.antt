@@ -10,7 +10,7 @@ use Rattle.pcap_file.specs.Spelled.{written_bytes, header_bytes}
 use Rattle.run_history.specs.Line.{header_line}
 use Rattle.run_history.specs.declared.line.Mode.{Mode}
 use Rattle.stream_run.specs.Runs.{Handled, handled_in}
-use Rattle.stream_run.specs.Texts.{piece, head, bytes_of, sent_bytes, is_sent, record_of, written_of, sent_packets, sent_records, line_of}
+use Rattle.stream_run.specs.Texts.{piece, head, bytes_of, sent_bytes, is_sent, record_of, written_of, sent_packets, line_of}
 use Rattle.stream_run.specs.Laws.{FilesOnlyGrow, OutputsArePackets, OutputsAreCaptures, JournalsAreLines}
 use Rattle.stream_run.proofs.Going.{handled_longer}
 

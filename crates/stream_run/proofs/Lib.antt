@@ -9,3 +9,4 @@ pub mod Complete
 pub mod Ruled
 pub mod Journals
 pub mod Grown
+pub mod Went

@@ -3,6 +3,7 @@ pub mod Runs
 pub mod Texts
 pub mod Laws
 pub mod Stops
+pub mod Given
 pub mod Writing
 pub mod Streaming
 pub mod Orders

@@ -1,5 +1,5 @@
 -- Files that are written side by side, each by its own buffer.
-use Rattle.std.specs.Prelude.{◌<◌, ◌≡◌, ◌≢◌, ◌⊎◌, ℕ, List, ◌++◌, length, map, slice_get, Option, Some, None, Result, Ok, Err}
+use Rattle.std.specs.Prelude.{◌<◌, ◌≡◌, ◌≢◌, ◌⊎◌, ℕ, List, [], ◌++◌, length, map, slice_get, Option, Some, None, Result, Ok, Err}
 use Rattle.std.specs.List.{All}
 use Rattle.nf_base.specs.declared.card.Card.{Card}
 use Rattle.capture_format.specs.declared.format.CaptureFormat.{CaptureFormat}
@@ -143,3 +143,19 @@ pub record KeepsBut (files : List ℕ) (old new : Told) : Type 0 where
   pub contents : (n : List ℕ) → All (λ f. old.name f ≢ Some n) files → new.content n ≡ old.content n
   pub latest_same : (n : List ℕ) → new.latest n ≡ old.latest n
   pub next_same : new.next ≡ old.next
+
+-- ---- what changes of files, and what stops a call on them
+
+-- nothing but what was given to these files changed, and a fault of them is told
+pub record WroteOn {T : Type 0} (files : List ℕ) (old new : Told) (before after : Counted)
+    (result : Result T RunFault) : Type 0 where
+  pub kept : KeepsAllBut files old new
+  pub cause : IsStopCause before after result
+  pub among : StopsAmong [] files result
+
+-- nothing but these files and what is left of captures changed, and a fault of them is told
+pub record WentOn {T : Type 0} (captures files : List ℕ) (old new : Told) (before after : Counted)
+    (result : Result T RunFault) : Type 0 where
+  pub kept : KeepsBut files old new
+  pub cause : IsStopCause before after result
+  pub among : StopsAmong captures files result

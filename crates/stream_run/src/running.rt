@@ -1,19 +1,17 @@
 //! Packets, handled as they come.
-ghost use Rattle.std.specs.Prelude.{◌≡◌, ◌^◌, ◌<◌, ◌≤◌, ◌+◌, [], ℕ, Some, length};
-ghost use Rattle.nf_files.specs.Told.{IsRead, IsWritten};
+ghost use Rattle.std.specs.Prelude.{◌≡◌, ◌<◌, ◌≤◌, [], Some, length};
 ghost use Rattle.nf_base.specs.declared.card.Card.{Card};
 ghost use Rattle.capture_format.specs.declared.format.CaptureFormat.{CaptureFormat};
-ghost use Rattle.nf_base.specs.Doors.{six_ports, IsServed};
+ghost use Rattle.nf_base.specs.Doors.{IsServed};
 ghost use Rattle.nf_base.specs.Functions.{function_of};
 ghost use Rattle.nf_base.specs.Step.{step, opening};
 ghost use Rattle.nf_engine.specs.Handlings.{done_of};
 ghost use Rattle.nf_engine.specs.View.{fixed_of};
 ghost use Rattle.packet_feed.specs.Faults.{IsReadFault, IsOneOf};
-ghost use Rattle.packet_feed.specs.Told.{EachFile, IsApart};
-ghost use Rattle.packet_feed.specs.Sources.{files_in, sixes_in};
 ghost use Rattle.packet_feed.specs.Feeding.{last_packet, frame_of, original_of};
 ghost use Rattle.run_history.specs.declared.line.Mode.TheVariants.{One};
-ghost use Rattle.stream_run.specs.Writing.{files_of, AreHeld, KeepsAllBut, KeepsBut, IsStopCause, StopsAmong};
+ghost use Rattle.stream_run.specs.Given.{HasCaptures, AreWritable};
+ghost use Rattle.stream_run.specs.Writing.{files_of, AreHeld, WentOn, WroteOn};
 ghost use Rattle.stream_run.specs.Seen.{packet_seen};
 ghost use Rattle.stream_run.specs.Streaming.{HandlesOne, Comes, stop_in};
 
@@ -80,9 +78,7 @@ fn handle_one<F: Files>(
     requires whole { tables.old.share.of ≡ 1 }
     requires port { (last_packet feed.now).id.port < length func.now.handlers }
     requires served { IsServed (function_of func.now) (last_packet feed.now) }
-    requires created { EachFile (IsWritten (F.told files.old)) (files_of sinks.old) }
-    requires apart { IsApart (files_of sinks.old) }
-    requires few { length sinks.old ≤ 2 ^ 32 }
+    requires writable { AreWritable (F.told files.old) (files_of sinks.old) }
     requires captured { length (frame_of feed.now) ≤ 262144 }
     ensures handles { let v = feed.now in
         HandlesOne (function_of func.now) (length func.now.handlers)
@@ -90,9 +86,8 @@ fn handle_one<F: Files>(
         (F.told files.old) (F.told files.new) sinks.old sinks.new result }
     ensures same { fixed_of tables.new ≡ fixed_of tables.old }
     ensures same_files { files_of sinks.new ≡ files_of sinks.old }
-    ensures kept { KeepsAllBut (files_of sinks.old) (F.told files.old) (F.told files.new) }
-    ensures cause { IsStopCause (F.counted files.old) (F.counted files.new) result }
-    ensures among { StopsAmong [] (files_of sinks.old) result }
+    ensures wrote { WroteOn (files_of sinks.old) (F.told files.old) (F.told files.new)
+        (F.counted files.old) (F.counted files.new) result }
 {
     let id = feed.id();
     let time = feed.time();
@@ -148,14 +143,9 @@ pub fn handle_all<F: Files>(
     requires of_func { tables.old.decls ≡ func.now.chains }
     requires whole { tables.old.share.of ≡ 1 }
     requires opens { tables.old.state ≡ opening (function_of func.now) }
-    requires captures { files_in feed.old.sources ≡ captures.now }
-    requires six { sixes_in feed.old.sources ≡ six_ports (function_of func.now) }
-    requires ports { length captures.now ≡ length func.now.handlers }
+    requires captures { HasCaptures func.now captures.now feed.old (F.told files.old) }
     requires new { feed.old.given ≡ 0 }
-    requires opened { EachFile (IsRead (F.told files.old)) captures.now }
-    requires created { EachFile (IsWritten (F.told files.old)) (files_of sinks.old) }
-    requires apart { IsApart (files_of sinks.old) }
-    requires few { length sinks.old ≤ 2 ^ 32 }
+    requires writable { AreWritable (F.told files.old) (files_of sinks.old) }
     // Where the sinks hold what each file begins with, with some card.
     ensures comes { let ports = length func.now.handlers in
         (card : Card) → (format : CaptureFormat) →
@@ -165,9 +155,8 @@ pub fn handle_all<F: Files>(
         sinks.new tables.new.state result }
     ensures same { fixed_of tables.new ≡ fixed_of tables.old }
     ensures same_files { files_of sinks.new ≡ files_of sinks.old }
-    ensures kept { KeepsBut (files_of sinks.old) (F.told files.old) (F.told files.new) }
-    ensures cause { IsStopCause (F.counted files.old) (F.counted files.new) result }
-    ensures among { StopsAmong captures.now (files_of sinks.old) result }
+    ensures went { WentOn captures.now (files_of sinks.old) (F.told files.old) (F.told files.new)
+        (F.counted files.old) (F.counted files.new) result }
 {
     let mut context = Context::new();
     'packets: loop {

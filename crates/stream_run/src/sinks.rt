@@ -1,13 +1,12 @@
 //! Files that are written side by side, by number: the outputs in the order of their ports, and the
 //! journal behind them.
-ghost use Rattle.std.specs.Prelude.{◌≡◌, ◌^◌, ◌≤◌, ◌∷◌, ◌++◌, [], ℕ, List, false, length, OnOk};
-ghost use Rattle.nf_files.specs.Told.{IsWritten};
+ghost use Rattle.std.specs.Prelude.{◌≡◌, ◌∷◌, ◌++◌, [], ℕ, List, false, OnOk};
 ghost use Rattle.nf_base.specs.declared.card.Card.{Card};
 ghost use Rattle.capture_format.specs.declared.format.CaptureFormat.{CaptureFormat};
 ghost use Rattle.nf_base.specs.declared.done.Action.TheVariants.{To};
 ghost use Rattle.frame_ip.specs.Edit.{IsUnedited};
-ghost use Rattle.packet_feed.specs.Told.{EachFile, IsApart};
 ghost use Rattle.run_history.specs.declared.line.Mode.{Mode};
+ghost use Rattle.stream_run.specs.Given.{AreWritable};
 ghost use Rattle.stream_run.specs.Runs.{Handled};
 ghost use Rattle.stream_run.specs.Texts.{piece, sent_in, told_in};
 ghost use Rattle.stream_run.specs.Writing.{files_of, AreGrown, AreHeld, AllGoOn, AreEmpty, HoldLittle, KeepsAllBut, IsStopCause, StopsAmong};
@@ -129,8 +128,7 @@ fn hold_parts(
 
 /// Gives to the files what is held for them where it is much.
 pub fn flush_full<F: Files>(sinks: &mut Seq<Sink>, files: &mut F) -> Result<(), RunFault>
-    requires created { EachFile (IsWritten (F.told files.old)) (files_of sinks.old) }
-    requires apart { IsApart (files_of sinks.old) }
+    requires writable { AreWritable (F.told files.old) (files_of sinks.old) }
     ensures goes_on { (mode : Mode) → (workers : ℕ) → (card : Card) →
         (format : CaptureFormat) → (ports : ℕ) → (hs : List Handled) →
         AreHeld mode workers card format ports hs (F.told files.old) sinks.old →
@@ -163,9 +161,7 @@ pub(crate) fn put_parts<F: Files>(
     edited: bool,
 ) -> Result<(), RunFault>
     requires edited { edited ≡ false → IsUnedited handled.now.done.edits }
-    requires created { EachFile (IsWritten (F.told files.old)) (files_of sinks.old) }
-    requires apart { IsApart (files_of sinks.old) }
-    requires few { length sinks.old ≤ 2 ^ 32 }
+    requires writable { AreWritable (F.told files.old) (files_of sinks.old) }
     ensures goes_on { (mode : Mode) → (workers : ℕ) → (card : Card) →
         (format : CaptureFormat) → (hs : List Handled) →
         AreHeld mode workers card format ports hs (F.told files.old) sinks.old →
@@ -191,9 +187,7 @@ pub fn put_all<F: Files>(
     ports: u32,
     handled: &HandledPacket,
 ) -> Result<(), RunFault>
-    requires created { EachFile (IsWritten (F.told files.old)) (files_of sinks.old) }
-    requires apart { IsApart (files_of sinks.old) }
-    requires few { length sinks.old ≤ 2 ^ 32 }
+    requires writable { AreWritable (F.told files.old) (files_of sinks.old) }
     ensures goes_on { (mode : Mode) → (workers : ℕ) → (card : Card) →
         (format : CaptureFormat) → (hs : List Handled) →
         AreHeld mode workers card format ports hs (F.told files.old) sinks.old →
@@ -212,8 +206,7 @@ pub fn put_all<F: Files>(
 
 /// Gives to all files what is held for them.
 pub fn flush_all<F: Files>(sinks: &mut Seq<Sink>, files: &mut F) -> Result<(), RunFault>
-    requires created { EachFile (IsWritten (F.told files.old)) (files_of sinks.old) }
-    requires apart { IsApart (files_of sinks.old) }
+    requires writable { AreWritable (F.told files.old) (files_of sinks.old) }
     ensures goes_on { (mode : Mode) → (workers : ℕ) → (card : Card) →
         (format : CaptureFormat) → (ports : ℕ) → (hs : List Handled) →
         AreHeld mode workers card format ports hs (F.told files.old) sinks.old →

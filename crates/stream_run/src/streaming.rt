@@ -1,13 +1,10 @@
 //! A whole run by one worker.
-ghost use Rattle.std.specs.Prelude.{◌≡◌, ◌^◌, ◌+◌, ◌≤◌, ℕ, [], Some, length, slice_get};
-ghost use Rattle.nf_base.specs.Doors.{six_ports};
+ghost use Rattle.std.specs.Prelude.{◌≡◌, [], length};
 ghost use Rattle.nf_base.specs.Step.{opening};
 ghost use Rattle.nf_base.specs.Functions.{function_of};
-ghost use Rattle.nf_files.specs.Told.{IsEmptyIfTold, IsRead, IsWritten};
-ghost use Rattle.packet_feed.specs.Told.{EachFile, IsApart};
-ghost use Rattle.packet_feed.specs.Sources.{files_in, sixes_in};
 ghost use Rattle.run_history.specs.declared.line.Mode.TheVariants.{One};
-ghost use Rattle.stream_run.specs.Writing.{AreHeld, files_of, KeepsBut, IsStopCause, StopsAmong};
+ghost use Rattle.stream_run.specs.Given.{HasCaptures, HasTargets, AreWritable};
+ghost use Rattle.stream_run.specs.Writing.{AreHeld, files_of, WentOn};
 ghost use Rattle.stream_run.specs.Lawful.{Runs, Flows, Streams};
 ghost use Rattle.capture_format.specs.declared.format.CaptureFormat.{CaptureFormat};
 
@@ -43,23 +40,17 @@ fn flow<F: Files>(
     requires of_func { tables.old.decls ≡ func.now.chains }
     requires whole { tables.old.share.of ≡ 1 }
     requires opens { tables.old.state ≡ opening (function_of func.now) }
-    requires captures { files_in feed.old.sources ≡ captures.now }
-    requires six { sixes_in feed.old.sources ≡ six_ports (function_of func.now) }
-    requires ports { length captures.now ≡ length func.now.handlers }
+    requires captures { HasCaptures func.now captures.now feed.old (F.told files.old) }
     requires new { feed.old.given ≡ 0 }
-    requires opened { EachFile (IsRead (F.told files.old)) captures.now }
-    requires created { EachFile (IsWritten (F.told files.old)) (files_of sinks.old) }
-    requires apart { IsApart (files_of sinks.old) }
-    requires few { length sinks.old ≤ 2 ^ 32 }
+    requires writable { AreWritable (F.told files.old) (files_of sinks.old) }
     ensures flows { let ports = length func.now.handlers in
         (card : Card) → (format : CaptureFormat) →
         AreHeld One 1 card format ports [] (F.told files.old) sinks.old →
         Flows (function_of func.now) card format ports
         feed.old (F.told files.old) feed.new (F.told files.new)
         (files_of sinks.old) tables.new.state result }
-    ensures kept { KeepsBut (files_of sinks.old) (F.told files.old) (F.told files.new) }
-    ensures cause { IsStopCause (F.counted files.old) (F.counted files.new) result }
-    ensures among { StopsAmong captures.now (files_of sinks.old) result }
+    ensures went { WentOn captures.now (files_of sinks.old) (F.told files.old) (F.told files.new)
+        (F.counted files.old) (F.counted files.new) result }
 {
     let ending = match handle_all(files, func, tables, feed, captures, sinks) {
         Ok(ending) => ending,
@@ -80,22 +71,16 @@ fn stream<F: Files>(
     captures: &[u32],
     sinks: &mut Seq<Sink>,
 ) -> Result<Ran, RunFault>
-    requires captures { files_in feed.old.sources ≡ captures.now }
-    requires six { sixes_in feed.old.sources ≡ six_ports (function_of func.now) }
-    requires ports { length captures.now ≡ length func.now.handlers }
+    requires captures { HasCaptures func.now captures.now feed.old (F.told files.old) }
     requires new { feed.old.given ≡ 0 }
-    requires opened { EachFile (IsRead (F.told files.old)) captures.now }
-    requires created { EachFile (IsWritten (F.told files.old)) (files_of sinks.old) }
-    requires apart { IsApart (files_of sinks.old) }
-    requires few { length sinks.old ≤ 2 ^ 32 }
+    requires writable { AreWritable (F.told files.old) (files_of sinks.old) }
     ensures streams { let ports = length func.now.handlers in
         (card : Card) → (format : CaptureFormat) →
         AreHeld One 1 card format ports [] (F.told files.old) sinks.old →
         Streams (function_of func.now) card format ports
         feed.old (F.told files.old) feed.new (F.told files.new) (files_of sinks.old) result }
-    ensures kept { KeepsBut (files_of sinks.old) (F.told files.old) (F.told files.new) }
-    ensures cause { IsStopCause (F.counted files.old) (F.counted files.new) result }
-    ensures among { StopsAmong captures.now (files_of sinks.old) result }
+    ensures went { WentOn captures.now (files_of sinks.old) (F.told files.old) (F.told files.new)
+        (F.counted files.old) (F.counted files.new) result }
 {
     let mut tables = match Tables::new(alloc, func, Share { queue: 0, of: 1 }) {
         Ok(tables) => tables,
@@ -136,25 +121,16 @@ pub fn run<F: Files>(
     captures: &[u32],
     targets: &[u32],
 ) -> Result<Ran, RunFault>
-    requires captures { files_in feed.old.sources ≡ captures.now }
-    requires six { sixes_in feed.old.sources ≡ six_ports (function_of func.now) }
-    requires ports { length captures.now ≡ length func.now.handlers }
+    requires captures { HasCaptures func.now captures.now feed.old (F.told files.old) }
     requires new { feed.old.given ≡ 0 }
-    requires opened { EachFile (IsRead (F.told files.old)) captures.now }
-    requires created { EachFile (IsWritten (F.told files.old)) targets.now }
-    requires apart { IsApart targets.now }
-    requires as_many { length targets.now ≡ length func.now.handlers + 1 }
-    requires few { length targets.now ≤ 2 ^ 32 }
-    requires empty { (k : ℕ) → (file : ℕ) → slice_get targets.now k ≡ Some file →
-        IsEmptyIfTold ((F.told files.old).given file) }
+    requires targets { HasTargets func.now targets.now (F.told files.old) }
     // One run's files are whole, and it handled the first packets of the captures in capture order;
     // or each file holds a front of what such a run leaves there.
     ensures runs { Runs (function_of func.now) card format feed.old (F.told files.old)
         feed.new (F.told files.new) targets.now result }
-    ensures kept { KeepsBut targets.now (F.told files.old) (F.told files.new) }
-    ensures cause { IsStopCause (F.counted files.old) (F.counted files.new) result }
     // The file that failed is one of the captures or of the targets.
-    ensures among { StopsAmong captures.now targets.now result }
+    ensures went { WentOn captures.now targets.now (F.told files.old) (F.told files.new)
+        (F.counted files.old) (F.counted files.new) result }
 {
     let ports = func.handlers.len();
     let workers = Workers::new(1);

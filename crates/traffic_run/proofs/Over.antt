@@ -4,17 +4,21 @@ use Rattle.std.specs.List.{slice_get}
 use Rattle.std.proofs.lemmas.List.{length-map, take_all}
 use Rattle.capture_format.specs.declared.format.CaptureFormat.{CaptureFormat}
 use Rattle.nf_base.specs.declared.card.Card.{Card}
+use Rattle.nf_base.specs.Doors.{six_ports}
+use Rattle.nf_base.specs.Functions.{function_of}
 use Rattle.nf_base.specs.Text.{Function}
+use Rattle.nf_base.specs.declared.func.Func.{Func}
 use Rattle.nf_base.specs.declared.keys.Keys.{Keys}
 use Rattle.nf_base.specs.declared.packet.Packet.{Packet}
-use Rattle.nf_files.specs.Told.{Told, IsEmptyIfTold}
+use Rattle.nf_files.specs.Told.{Told, IsEmptyIfTold, IsRead}
 use Rattle.packet_feed.specs.Arrivals.{Arrival}
 use Rattle.packet_feed.specs.Order.{in_order}
-use Rattle.packet_feed.specs.Told.{packets_of}
+use Rattle.packet_feed.specs.Told.{packets_of, EachFile, KeepsOthers}
 use Rattle.packet_feed.specs.Sources.{files_in, sixes_in}
 use Rattle.packet_feed.specs.Feeding.{Feeding}
 use Rattle.run_history.specs.declared.line.Mode.TheVariants as mode
 use Rattle.stream_run.specs.declared.ran.Ran.{Ran}
+use Rattle.stream_run.specs.Given.{HasCaptures, HasTargets}
 use Rattle.stream_run.specs.Runs.{Run, arrival_in}
 use Rattle.stream_run.specs.Rules.{Rule, one_rule, shard_rule, lock_rule, IsRunBy}
 use Rattle.stream_run.specs.Texts.{file_bytes}
@@ -188,3 +192,22 @@ pub shards_whole : (card : Card) (format : CaptureFormat) (Refused : Type 0) (f 
 shards_whole card format Refused f keys workers arrivals now files (Ok (left.Whole m state)) h = record { run = h.run; is_run = record { rule = h.is_run.rule; due = h.is_run.due; is_run = h.is_run.is_run }; mode_is = h.mode_is; left = h.left; wholes = h.wholes }
 shards_whole card format Refused f keys workers arrivals now files (Ok (left.Full full)) h = h
 shards_whole card format Refused f keys workers arrivals now files (Err stop) h = record { run = h.run; given = h.given; first = h.first; is_run = record { rule = h.is_run.rule; due = h.is_run.due; is_run = h.is_run.is_run }; fronts = h.fronts }
+
+-- ---- what a run is given
+
+-- a feed of captures that are made of packets reads them
+pub has_captures : (func : Func) (captures : List ℕ) (feed : Feeding) (now : Told) (all : List Arrival) → HasStarted (six_ports (function_of func)) captures feed now all → length captures ≡ length func.handlers → EachFile (IsRead now) captures → HasCaptures func captures feed now
+has_captures func captures feed now all started ports opened = record {
+  reads = record { files = started.files; opened = opened };
+  six = started.six_is;
+  ports = ports;
+}
+
+-- files that were created are targets still after captures were read
+pub still_targets : (func : Func) (captures targets : List ℕ) (old new : Told) → KeepsOthers captures old new → HasTargets func targets old → HasTargets func targets new
+still_targets func captures targets old new kept h = record {
+  writable = record { created = λ k file e. kept.kinds file ∙ h.writable.created k file e; apart = h.writable.apart };
+  as_many = h.as_many;
+  few = h.few;
+  empty = still_empty targets old new kept.givens h.empty;
+}

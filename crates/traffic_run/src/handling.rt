@@ -1,16 +1,17 @@
 //! Packets of captures that are made of traffic, handled.
-ghost use Rattle.std.specs.Prelude.{◌≡◌, ◌+◌, ◌<◌, ◌≤◌, ℕ, Some, length, slice_get};
+ghost use Rattle.std.specs.Prelude.{◌≡◌, ◌+◌, ◌<◌, ◌≤◌, length};
 ghost use Rattle.nf_base.specs.Functions.{function_of};
 ghost use Rattle.nf_base.specs.Doors.{six_ports};
 ghost use Rattle.toeplitz_hash.specs.Meeting.{HashAlikeWhereTheyMeet};
 ghost use Rattle.lock_mode.specs.Gates.{Rose};
-ghost use Rattle.nf_files.specs.Told.{IsEmptyIfTold, IsRead, IsWritten};
+ghost use Rattle.nf_files.specs.Told.{IsRead};
 ghost use Rattle.packet_feed.specs.Told.{EachFile, IsApart};
-ghost use Rattle.stream_run.specs.Writing.{KeepsBut, IsStopCause, StopsAmong};
 ghost use Rattle.traffic_run.specs.TrafficSpecs.{asked_for};
 ghost use Rattle.traffic_run.specs.Runs.{ArePackets, Leaves, Serves};
 ghost use Rattle.traffic_run.specs.Started.{HasStarted};
 ghost use Rattle.traffic_run.specs.declared.worker_plan.WorkerPlan.TheVariants.{One, Shards, Sharing};
+ghost use Rattle.stream_run.specs.Writing.{WentOn};
+ghost use Rattle.stream_run.specs.Given.{HasTargets};
 
 use crate::result::UncountedResult;
 use crate::traffic_spec::TrafficSpec;
@@ -43,20 +44,13 @@ fn run_one<F: Files>(
         let six = six_ports (function_of func.now) in
         HasStarted six captures.now feed.old (F.told files.old) all }
     requires ports { length captures.now ≡ length func.now.handlers }
-    requires some_port { 1 ≤ length func.now.handlers }
-    requires few_ports { length captures.now ≤ 4 }
     requires opened { EachFile (IsRead (F.told files.old)) captures.now }
-    requires created { EachFile (IsWritten (F.told files.old)) targets.now }
-    requires apart { IsApart targets.now }
-    requires as_many { length targets.now ≡ length func.now.handlers + 1 }
-    requires empty { (k : ℕ) → (file : ℕ) → slice_get targets.now k ≡ Some file →
-        IsEmptyIfTold ((F.told files.old).given file) }
+    requires targets { HasTargets func.now targets.now (F.told files.old) }
     ensures leaves { let all = asked_for asked.now (length func.now.handlers) in
         Leaves One asked.now.card asked.now.format ⊥ (function_of func.now) all
         (F.told files.new) targets.now result }
-    ensures kept { KeepsBut targets.now (F.told files.old) (F.told files.new) }
-    ensures cause { IsStopCause (F.counted files.old) (F.counted files.new) result }
-    ensures among { StopsAmong captures.now targets.now result }
+    ensures went { WentOn captures.now targets.now (F.told files.old) (F.told files.new)
+        (F.counted files.old) (F.counted files.new) result }
 {
     let (card, format) = (asked.card, asked.format);
     match stream_run::run(alloc, files, func, card, format, feed, captures, targets) {
@@ -93,21 +87,14 @@ fn run_shards<
     requires keyed { length func.now.handlers ≤ length keys.now.ports }
     requires alike { HashAlikeWhereTheyMeet (function_of func.now) keys.now }
     requires ports { length captures.now ≡ length func.now.handlers }
-    requires some_port { 1 ≤ length func.now.handlers }
-    requires few_ports { length captures.now ≤ 4 }
     requires opened { EachFile (IsRead (F.told files.old)) captures.now }
-    requires created { EachFile (IsWritten (F.told files.old)) targets.now }
-    requires apart { IsApart targets.now }
-    requires as_many { length targets.now ≡ length func.now.handlers + 1 }
-    requires empty { (k : ℕ) → (file : ℕ) → slice_get targets.now k ≡ Some file →
-        IsEmptyIfTold ((F.told files.old).given file) }
+    requires targets { HasTargets func.now targets.now (F.told files.old) }
     ensures leaves { let all = asked_for asked.now (length func.now.handlers) in
         let worker_plan = Shards keys.now workers in
         Leaves worker_plan asked.now.card asked.now.format ⊥ (function_of func.now) all
         (F.told files.new) targets.now result }
-    ensures kept { KeepsBut targets.now (F.told files.old) (F.told files.new) }
-    ensures cause { IsStopCause (F.counted files.old) (F.counted files.new) result }
-    ensures among { StopsAmong captures.now targets.now result }
+    ensures went { WentOn captures.now targets.now (F.told files.old) (F.told files.new)
+        (F.counted files.old) (F.counted files.new) result }
 {
     match sharded_run::run(
         rt,
@@ -151,21 +138,14 @@ fn run_sharing<R: Threads + Wait + Sync, F: Files, T: Turns + Sync, G: Gate + Dr
         HasStarted six captures.now feed.old (F.told files.old) all }
     requires several { 1 < workers }
     requires ports { length captures.now ≡ length func.now.handlers }
-    requires some_port { 1 ≤ length func.now.handlers }
-    requires few_ports { length captures.now ≤ 4 }
     requires opened { EachFile (IsRead (F.told files.old)) captures.now }
-    requires created { EachFile (IsWritten (F.told files.old)) targets.now }
-    requires apart { IsApart targets.now }
-    requires as_many { length targets.now ≡ length func.now.handlers + 1 }
-    requires empty { (k : ℕ) → (file : ℕ) → slice_get targets.now k ≡ Some file →
-        IsEmptyIfTold ((F.told files.old).given file) }
+    requires targets { HasTargets func.now targets.now (F.told files.old) }
     ensures leaves { let Refused = Rose (G.refused gate.old) (G.refused gate.new) in
         let all = asked_for asked.now (length func.now.handlers) in
         Leaves (Sharing workers) asked.now.card asked.now.format Refused (function_of func.now) all
         (F.told files.new) targets.now result }
-    ensures kept { KeepsBut targets.now (F.told files.old) (F.told files.new) }
-    ensures cause { IsStopCause (F.counted files.old) (F.counted files.new) result }
-    ensures among { StopsAmong captures.now targets.now result }
+    ensures went { WentOn captures.now targets.now (F.told files.old) (F.told files.new)
+        (F.counted files.old) (F.counted files.new) result }
 {
     match locked_run::run(
         rt,
@@ -213,21 +193,14 @@ fn run_by<
         HasStarted six captures.now feed.old (F.told files.old) all }
     requires serves { Serves (function_of func.now) worker_plan.now }
     requires ports { length captures.now ≡ length func.now.handlers }
-    requires some_port { 1 ≤ length func.now.handlers }
-    requires few_ports { length captures.now ≤ 4 }
     requires opened { EachFile (IsRead (F.told files.old)) captures.now }
-    requires created { EachFile (IsWritten (F.told files.old)) targets.now }
-    requires apart { IsApart targets.now }
-    requires as_many { length targets.now ≡ length func.now.handlers + 1 }
-    requires empty { (k : ℕ) → (file : ℕ) → slice_get targets.now k ≡ Some file →
-        IsEmptyIfTold ((F.told files.old).given file) }
+    requires targets { HasTargets func.now targets.now (F.told files.old) }
     ensures leaves { let Refused = Rose (G.refused gate.old) (G.refused gate.new) in
         let all = asked_for asked.now (length func.now.handlers) in
         Leaves worker_plan.now asked.now.card asked.now.format Refused (function_of func.now) all
         (F.told files.new) targets.now result }
-    ensures kept { KeepsBut targets.now (F.told files.old) (F.told files.new) }
-    ensures cause { IsStopCause (F.counted files.old) (F.counted files.new) result }
-    ensures among { StopsAmong captures.now targets.now result }
+    ensures went { WentOn captures.now targets.now (F.told files.old) (F.told files.new)
+        (F.counted files.old) (F.counted files.new) result }
 {
     match worker_plan {
         WorkerPlan::One => run_one(alloc, files, func, asked, feed, captures, targets),
@@ -263,21 +236,14 @@ pub(crate) fn run_over<
         ArePackets (six_ports (function_of func.now)) captures.now (F.told files.old) all }
     requires alone { IsApart captures.now }
     requires ports { length captures.now ≡ length func.now.handlers }
-    requires some_port { 1 ≤ length func.now.handlers }
-    requires few_ports { length captures.now ≤ 4 }
     requires opened { EachFile (IsRead (F.told files.old)) captures.now }
-    requires created { EachFile (IsWritten (F.told files.old)) targets.now }
-    requires apart { IsApart targets.now }
-    requires as_many { length targets.now ≡ length func.now.handlers + 1 }
-    requires empty { (k : ℕ) → (file : ℕ) → slice_get targets.now k ≡ Some file →
-        IsEmptyIfTold ((F.told files.old).given file) }
+    requires targets { HasTargets func.now targets.now (F.told files.old) }
     ensures leaves { let Refused = Rose (G.refused gate.old) (G.refused gate.new) in
         let all = asked_for asked.now (length func.now.handlers) in
         Leaves worker_plan.now asked.now.card asked.now.format Refused (function_of func.now) all
         (F.told files.new) targets.now result }
-    ensures kept { KeepsBut targets.now (F.told files.old) (F.told files.new) }
-    ensures cause { IsStopCause (F.counted files.old) (F.counted files.new) result }
-    ensures among { StopsAmong captures.now targets.now result }
+    ensures went { WentOn captures.now targets.now (F.told files.old) (F.told files.new)
+        (F.counted files.old) (F.counted files.new) result }
 {
     match Feed::start(alloc, files, func, captures, asked.count) {
         Ok(mut feed) => run_by(

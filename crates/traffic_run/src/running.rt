@@ -5,13 +5,14 @@ ghost use Rattle.nf_base.specs.Doors.{six_ports};
 ghost use Rattle.lock_mode.specs.Gates.{Rose};
 ghost use Rattle.nf_files.specs.Told.{Told, IsEmptyIfTold, IsWritten};
 ghost use Rattle.packet_feed.specs.Told.{EachFile, IsApart};
-ghost use Rattle.stream_run.specs.Writing.{KeepsBut, IsStopCause, StopsAmong};
-ghost use Rattle.made_captures.specs.Captures.{IsMade, numbers_of};
+ghost use Rattle.made_captures.specs.Captures.{IsMade};
 ghost use Rattle.made_captures.specs.Told.{with_made};
-ghost use Rattle.made_captures.specs.Outputs.{counts_right, is_known, journal_of, told_beside};
+ghost use Rattle.made_captures.specs.Outputs.{counts_right, journal_of, told_beside};
 ghost use Rattle.traffic_run.specs.TrafficSpecs.{asked_for};
 ghost use Rattle.traffic_run.specs.Runs.{ArePackets, Leaves, Serves, Runs};
-ghost use Rattle.traffic_run.specs.Beside.{AreBefore, CountsTo, StaysKnown, told_file, told_stop, came_of};
+ghost use Rattle.traffic_run.specs.Beside.{AreBefore, CountsTo, StaysKnown, told_file, came_of};
+ghost use Rattle.stream_run.specs.Writing.{WentOn};
+ghost use Rattle.stream_run.specs.Given.{HasTargets};
 
 use crate::handling::run_over;
 use crate::result::{TrafficResult, UncountedResult};
@@ -62,11 +63,7 @@ fn run_beside<
     requires ports { length captures.now ≡ length func.now.handlers }
     requires some_port { 1 ≤ length func.now.handlers }
     requires few_ports { length captures.now ≤ 4 }
-    requires created { EachFile (IsWritten (F.told beside.old.files.now)) targets.now }
-    requires apart { IsApart targets.now }
-    requires as_many { length targets.now ≡ length func.now.handlers + 1 }
-    requires empty { (k : ℕ) → (file : ℕ) → slice_get targets.now k ≡ Some file →
-        IsEmptyIfTold ((F.told beside.old.files.now).given file) }
+    requires targets { HasTargets func.now targets.now (F.told beside.old.files.now) }
     ensures same_files { beside.new.files.ghost_name ≡ beside.old.files.ghost_name }
     ensures leaves { let Refused = Rose (G.refused gate.old) (G.refused gate.new) in
         let all = asked_for asked.now (length func.now.handlers) in
@@ -76,11 +73,10 @@ fn run_beside<
         CountsTo c.first c.count (F.told beside.new.files.now) beside.new.outputs.bytes }
     ensures known { StaysKnown (journal_of beside.old.outputs)
         (F.counted beside.old.files.now) (F.counted beside.new.files.now) }
-    ensures kept { let told = F.told beside.old.files.now in
-        KeepsBut targets.now told (F.told beside.new.files.now) }
-    ensures cause { let counted = F.counted beside.old.files.now in
-        IsStopCause counted (F.counted beside.new.files.now) result }
-    ensures among { StopsAmong captures.now targets.now result }
+    ensures went { let told = F.told beside.old.files.now in
+        let counted = F.counted beside.old.files.now in
+        WentOn captures.now targets.now told (F.told beside.new.files.now)
+        counted (F.counted beside.new.files.now) result }
 {
     run_over(
         rt,
@@ -147,9 +143,8 @@ fn run_made<
     ensures counts { CountsTo first (length func.now.handlers) (F.told files.new) result.bytes }
     ensures known { StaysKnown (first + length func.now.handlers)
         (F.counted files.old) (F.counted files.new) }
-    ensures kept { KeepsBut targets.now (F.told files.old) (F.told files.new) }
-    ensures cause { IsStopCause (F.counted files.old) (F.counted files.new) result.result }
-    ensures among { StopsAmong captures.now targets.now result.result }
+    ensures went { WentOn captures.now targets.now (F.told files.old) (F.told files.new)
+        (F.counted files.old) (F.counted files.new) result.result }
 {
     let mut made = made;
     let outputs = Outputs::new(first, func.handlers.len());
@@ -258,10 +253,9 @@ pub fn run<
         let all = asked_for asked (length func.now.handlers) in
         Runs worker_plan.now asked.card asked.format Refused (function_of func.now) all
         (F.told files.new) targets.now first result }
-    ensures kept { KeepsBut targets.now (F.told files.old) (F.told files.new) }
-    ensures cause { IsStopCause (F.counted files.old) (F.counted files.new) result }
     // The file that failed is one of the targets.
-    ensures among { StopsAmong [] targets.now result }
+    ensures went { WentOn [] targets.now (F.told files.old) (F.told files.new)
+        (F.counted files.old) (F.counted files.new) result }
 {
     captures_are_traffic();
     let ports = func.handlers.len();

@@ -18,7 +18,7 @@ run-requires-clause-empty g c κs lives k file e =
 pub leave_run-requires-clause-last : goal.leave_run-requires-clause-last
 leave_run-requires-clause-last g c =
     let requires = c.requires.1.1.1.1.1.1.1.1.1.1.1 in
-    last_is c.args.job.now.layout.ports requires.1.1.1.1.1 c.in-Ok-Whole.ensures.kept.next_same refl
+    last_is c.args.job.now.layout.ports requires.1.1.1.1.1 c.in-Ok-Whole.ensures.went.kept.next_same refl
 
 pub returns-in-Ok : goal.returns-in-Ok
 returns-in-Ok g c =
@@ -61,7 +61,7 @@ returns-in-Ok-Full g c =
     let a = seen (told c.args.files.now) (counted c.args.files.now) in
     let b = seen (told c.run.new.files) (counted c.run.new.files) in
     let came = rw c.in-Ok-Full.field-0-is at c.in-Ok-Full.ensures.runs in
-    record { gens = share_full since a b job c.args.targets.now c.args.worker_plan.now _ c.in-Ok-Full.full c.full_share.result c.full_share.ensures requires.0 requires.1.1.1.1.1 requires.1.1.0 refl came c.in-Ok-Full.ensures.kept c.in-Ok-Full.ensures.cause }
+    record { gens = share_full since a b job c.args.targets.now c.args.worker_plan.now _ c.in-Ok-Full.full c.full_share.result c.full_share.ensures requires.0 requires.1.1.1.1.1 requires.1.1.0 refl came c.in-Ok-Full.ensures.went.kept c.in-Ok-Full.ensures.went.cause }
 
 pub returns : goal.returns
 returns g c =
@@ -73,5 +73,5 @@ returns g c =
     let a = seen (told c.args.files.now) (counted c.args.files.now) in
     let b = seen (told c.run.new.files) (counted c.run.new.files) in
     let came = c.in-Err.ensures.runs in
-    let stopped = cut since a b job c.args.targets.now c.args.worker_plan.now _ c.in-Err.stop requires.0 requires.1.1.1.1.1 requires.1.1.0 refl came c.in-Err.ensures.kept c.in-Err.ensures.cause c.in-Err.ensures.among in
+    let stopped = cut since a b job c.args.targets.now c.args.worker_plan.now _ c.in-Err.stop requires.0 requires.1.1.1.1.1 requires.1.1.0 refl came c.in-Err.ensures.went.kept c.in-Err.ensures.went.cause c.in-Err.ensures.went.among in
     record { gens = halted since b job c.in-Err.stop c.halt-in-Err.result requires.0 c.halt-in-Err.ensures stopped }

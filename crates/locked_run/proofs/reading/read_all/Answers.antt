@@ -4,7 +4,7 @@ use Rattle.packet_feed.specs.Sources.{files_in}
 use Rattle.stream_run.proofs.Held.{but_none, read_on}
 use Rattle.sharded_run.specs.Reading.{Gathers}
 use Rattle.sharded_run.proofs.Gathered.{gathers_none, gathers_more}
-use Rattle.sharded_run.proofs.Went.{still_opened}
+use Rattle.stream_run.proofs.Went.{still_opened}
 use Rattle.locked_run.proofs.reading.read_all.Goals as goal
 
 pub packets-init : goal.packets-init
@@ -51,9 +51,9 @@ packets-preserved g c =
     record {
       gathers = subst (λ (as_list : List Arrival). Gathers ports c.args.feed.now c.next.new.self (told c.args.files.now) (told c.next.new.files) as_list) (sym pushed)
           (gathers_more ports c.args.feed.now c.packets.feed c.next.new.self (told c.args.files.now) (told c.packets.files) (told c.next.new.files) c.packets.batch packet c.original.result c.frame.result.now inv.gathers
-          (rw c.in-Ok-Packet.field-0-is at ok.feeds) (rw c.in-Ok-Packet.field-0-is at ok.times) counts.0 counts.1 counts.2 c.next.ensures.same_most c.next.ensures.same_files c.next.ensures.same_six c.original.ensures c.frame.ensures c.in-Ok.ensures.input
+          (rw c.in-Ok-Packet.field-0-is at ok.feeds) (rw c.in-Ok-Packet.field-0-is at ok.times) counts.0 counts.1 counts.2 c.next.ensures.same.most c.next.ensures.same.files c.next.ensures.same.six c.original.ensures c.frame.ensures c.in-Ok.ensures.input
           (ap (λ (fs : List ℕ). length fs) c.requires.captures));
-      captures = c.next.ensures.same_files ∙ inv.captures;
+      captures = c.next.ensures.same.files ∙ inv.captures;
       kept = λ targets. read_on targets (files_in c.packets.feed.sources) (told c.args.files.now) (told c.packets.files) (told c.next.new.files) (inv.kept targets) c.next.ensures.kept;
       count = ok.cause ∙ inv.count;
     }

@@ -1,4 +1,4 @@
-use Rattle.std.proofs.Common.{◌≡◌, ℕ}
+use Rattle.std.proofs.Common.{◌≡◌}
 use Rattle.nf_base.specs.Functions.{function_of}
 use Rattle.nf_base.specs.Doors.{six_ports}
 use Rattle.packet_feed.proofs.Starting.{AreOpenedSoFar}

@@ -1,4 +1,4 @@
-use Rattle.std.proofs.Common.{◌≡◌, ◌≢◌, ◌+◌, ◌∙◌, ◌++◌, [], ◌∷◌, ℕ, zero, suc, List, length, map, Some, string_bytes, ap, sym, subst, refl, arith}
+use Rattle.std.proofs.Common.{◌≡◌, ◌+◌, ◌∙◌, ◌++◌, [], ◌∷◌, ℕ, zero, suc, List, length, map, Some, string_bytes, ap, sym, subst, arith}
 use Rattle.std.specs.List.{slice_get}
 use Rattle.std.proofs.lemmas.List.{length-map}
 use Rattle.nf_files.specs.Causes.{asking}
@@ -10,7 +10,7 @@ use Rattle.call_base.specs.Opened.{AreOpened, AsksSome, StopsFrom}
 use Rattle.call_base.specs.Outside.{Outside, seen}
 use Rattle.call_base.proofs.Reading.{fed_next}
 use Rattle.replay_call.specs.declared.job.Job.{Job}
-use Rattle.replay_call.specs.Progress.{IsSized, HasFed, asked, ports_of}
+use Rattle.replay_call.specs.Progress.{IsSized, HasFed, ports_of}
 use Rattle.replay_call.proofs.Beginning.{halted, are_unopened}
 use Rattle.replay_call.proofs.Judging.{has_ready}
 use Rattle.nf_files.specs.declared.kind.Kind.TheVariants.{Input}
@@ -30,25 +30,22 @@ from_behind : (before a : Outside) (job : Job) (captures : List ℕ) (v : Feedin
 from_behind before a job captures v last count numbered.Memory h next long from = tt
 from_behind before a job captures v last count (numbered.File file) h next long from = (omega (arith, from.0, next, fed_next h, h.opened.all), omega (arith, from.1, next, fed_next h, h.opened.all, long))
 
-pub replay_ready-requires-clause-opened : goal.replay_ready-requires-clause-opened
-replay_ready-requires-clause-opened g c =
-    let same = sym c.as_slice.ensures.value ∙ c.in-Some.ensures.cases.0 in
-    λ port file e. c.in-Ok.ensures.readable (suc port) file (ap (λ (xs : List ℕ). slice_get xs (suc port)) same ∙ e)
-
-pub replay_ready-requires-clause-opened_journal : goal.replay_ready-requires-clause-opened_journal
-replay_ready-requires-clause-opened_journal g c =
-    let same = sym c.as_slice.ensures.value ∙ c.in-Some.ensures.cases.0 in
-    c.in-Ok.ensures.readable 0 c.in-Some.journal.now (ap (λ (xs : List ℕ). slice_get xs 0) same)
-
-pub replay_ready-requires-clause-apart : goal.replay_ready-requires-clause-apart
-replay_ready-requires-clause-apart g c =
+pub replay_ready-requires-clause-files : goal.replay_ready-requires-clause-files
+replay_ready-requires-clause-files g c =
     let same = sym c.as_slice.ensures.value ∙ c.in-Some.ensures.cases.0 in
     let captures = c.args.captures.now in
-    let others = c.in-Some.journal.now ∷ c.in-Some.outputs.now in
-    let next = (g.F.Files.told c.args.files.now).next in
+    let outputs = c.in-Some.outputs.now in
+    let others = c.in-Some.journal.now ∷ outputs in
     let there = λ (k f : ℕ) (q : slice_get others k ≡ Some f). c.in-Ok.ensures.opened.numbers k f (ap (λ (xs : List ℕ). slice_get xs k) same ∙ q) in
     let at = placed captures others (c.args.job.now.layout.first + 1) (λ k f q. (c.requires.from k f q).0) (λ k f q. omega (arith, there k f q, c.requires.next, c.requires.all)) in
-    λ i j f f' e e' apart is. apart (omega (arith, at i f e, at j f' e', is))
+    let all = ap (λ (xs : List ℕ). length xs) same in
+    record {
+      opened_journal = c.in-Ok.ensures.readable 0 c.in-Some.journal.now (ap (λ (xs : List ℕ). slice_get xs 0) same);
+      opened_outputs = λ port file e. c.in-Ok.ensures.readable (suc port) file (ap (λ (xs : List ℕ). slice_get xs (suc port)) same ∙ e);
+      apart = λ i j f f' e e' apart is. apart (omega (arith, at i f e, at j f' e', is));
+      as_many = omega (arith, c.in-Ok.ensures.all, c.requires.some, c.requires.all, all);
+      few = omega (arith, c.in-Ok.ensures.all, c.requires.some, c.requires.sized.few, all);
+    }
 
 pub returns-in-Some : goal.returns-in-Some
 returns-in-Some g c =

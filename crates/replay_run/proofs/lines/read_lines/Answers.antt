@@ -1,4 +1,4 @@
-use Rattle.std.proofs.Common.{◌≡◌, ◌≢◌, ◌≤◌, ◌++◌, ◌∷◌, [], ℕ, List, Option, Bool, Err, length, map, Some, sym, ap, refl, subst, ◌∙◌, arith}
+use Rattle.std.proofs.Common.{◌≡◌, ◌≢◌, ◌≤◌, ◌++◌, ◌∷◌, [], ℕ, List, Option, Bool, Err, length, map, Some, sym, ap, refl, subst, ◌∙◌, arith, rules}
 use Rattle.std.specs.List.{All, slice_get}
 use Rattle.std.proofs.lemmas.List.Elements.{All-append}
 use Rattle.nf_base.specs.Functions.{function_of}
@@ -25,6 +25,9 @@ use Rattle.replay_run.specs.declared.lines.End.{End}
 use Rattle.replay_run.proofs.Compared.{file_at, same_length}
 use Rattle.replay_run.proofs.Kept.{others_both, others_around, others_outputs, others_one, among_more, among_of}
 use Rattle.replay_run.proofs.Ends.{reached_none, reached_more, over_at, ends_at, wrong_at, wrong_turn}
+use Rattle.replay_run.specs.Given.{AreBeside}
+use Rattle.replay_run.proofs.Apart.{are_beside, beside_on, no_capture, no_output}
+use Rattle.replay_run.proofs.Judged.{judges_on, output_count}
 use Rattle.replay_run.proofs.lines.read_lines.Goals as goal
 
 -- a file that is another is not in a list
@@ -57,11 +60,11 @@ lines-init g c =
     let kept = c.compare_headers.ensures.kept in
     record {
       reached = λ start bytes b. reached_none (IsRun (function_of c.args.func.now) (keys_in c.args.keys) j.heading) j.heading c.args.format (length captures) start bytes c.args.feed.now c.args.journal.now old now c.compare_headers.new.all j.tables.state c.requires.opens c.requires.new
-          (λ port f e. kept.rests f (c.requires.clear.behind port f (sym (ap (λ (fs : List ℕ). slice_get fs port) c.requires.captures) ∙ e)))
-          (kept.rests c.args.journal.now.file c.requires.no_output)
-          (subst (λ (n : ℕ). AreFound (λ k. bytes_of j.heading.mode j.heading.workers j.heading.card c.args.format n k []) old.rest c.compare_headers.new.all now) c.requires.as_many (c.in-Ok.ensures.compares j.heading.mode j.heading.workers j.heading.card))
+          (λ port f e. kept.rests f ((are_beside _ _ _ _ c.requires.files).clear.behind port f (sym (ap (λ (fs : List ℕ). slice_get fs port) c.requires.captures.reads.files) ∙ e)))
+          (kept.rests c.args.journal.now.file (no_output _ _ _ _ c.requires.files))
+          (subst (λ (n : ℕ). AreFound (λ k. bytes_of j.heading.mode j.heading.workers j.heading.card c.args.format n k []) old.rest c.compare_headers.new.all now) (output_count c.args.outputs.now _ c.requires.files.as_many) (c.in-Ok.ensures.compares j.heading.mode j.heading.workers j.heading.card))
           b;
-      captures = c.requires.captures;
+      captures = c.requires.captures.reads.files;
       six = refl;
       most = c.requires.most;
       within = omega (arith, c.requires.new);
@@ -87,40 +90,40 @@ lines-preserved g c =
     let inv = c.lines.invariant in
     let j = c.args.judge.now in
     let read : Keeps old mid file = subst (λ (n : ℕ). Keeps old mid n) inv.same_file c.next_line.ensures.kept in
-    let turned : KeepsOthers (captures ++ outputs) mid new = subst (λ (fs : List ℕ). KeepsOthers (captures ++ fs) mid new) inv.same_outputs c.one_turn.ensures.kept in
+    let turned : KeepsOthers (captures ++ outputs) mid new = subst (λ (fs : List ℕ). KeepsOthers (captures ++ fs) mid new) inv.same_outputs c.one_turn.ensures.read.kept in
     let gives = rw c.in-Ok-Line.field-0-is at c.in-Ok-Line.ensures.gives in
     let turn = subst (λ (h : Heading). IsTurn (IsRun (function_of c.args.func.now) (keys_in c.args.keys) h) h.mode c.args.format c.in-Ok-Line.line c.lines.judge.tables.state c.one_turn.new.judge.tables.state c.lines.feed c.one_turn.new.feed mid new c.lines.outputs c.one_turn.new.outputs) inv.same_heading (rw c.in-Ok-true.field-0-test at c.in-Ok-true.ensures.turns) in
     let counts = rw c.in-Ok-true.field-0-test at c.in-Ok-true.ensures.counts in
-    let few : length c.lines.outputs ≤ length captures = omega (arith, same_length c.lines.outputs begun inv.same_outputs, c.requires.as_many) in
+    let few : length c.lines.outputs ≤ length captures = omega (arith, same_length c.lines.outputs begun inv.same_outputs, output_count c.args.outputs.now _ c.requires.files.as_many) in
     record {
       reached = λ start bytes b. reached_more (IsRun (function_of c.args.func.now) (keys_in c.args.keys) j.heading) j.heading c.args.format (length captures) start bytes first.rest file old mid new c.lines.feed c.one_turn.new.feed c.lines.journal c.next_line.new.journal c.lines.outputs c.one_turn.new.outputs c.lines.judge.tables.state c.one_turn.new.judge.tables.state c.in-Ok-Line.line
           (inv.reached start bytes b)
           (λ at lines stands. gives_at c.lines.journal c.next_line.new.journal old mid c.lines.journal.file file c.in-Ok-Line.line inv.same_file gives at lines stands)
           turn
-          (λ port f e. captures_while captures file old mid c.requires.no_capture read port f (sym (ap (λ (fs : List ℕ). slice_get fs port) inv.captures) ∙ e))
-          (outputs_while c.lines.outputs begun file old mid inv.same_outputs c.requires.no_output read)
-          (turned.rests file (All-append (λ f. f ≢ file) captures outputs c.requires.no_capture c.requires.no_output))
+          (λ port f e. captures_while captures file old mid (no_capture _ _ _ _ c.requires.files) read port f (sym (ap (λ (fs : List ℕ). slice_get fs port) inv.captures) ∙ e))
+          (outputs_while c.lines.outputs begun file old mid inv.same_outputs (no_output _ _ _ _ c.requires.files) read)
+          (turned.rests file (All-append (λ f. f ≢ file) captures outputs (no_capture _ _ _ _ c.requires.files) (no_output _ _ _ _ c.requires.files)))
           few counts;
-      captures = c.one_turn.ensures.same_captures ∙ inv.captures;
-      six = c.one_turn.ensures.same_six ∙ inv.six;
-      most = c.one_turn.ensures.same_most ∙ inv.most;
+      captures = c.one_turn.ensures.same_feed.files ∙ inv.captures;
+      six = c.one_turn.ensures.same_feed.six ∙ inv.six;
+      most = c.one_turn.ensures.same_feed.most ∙ inv.most;
       within = omega (arith, counts, inv.within, c.if-given-most.false, c.given.ensures);
-      same = c.one_turn.ensures.same ∙ inv.same;
-      same_heading = c.one_turn.ensures.same_heading ∙ inv.same_heading;
+      same = c.one_turn.ensures.same.tables ∙ inv.same;
+      same_heading = c.one_turn.ensures.same.heading ∙ inv.same_heading;
       same_file = c.next_line.ensures.same_file ∙ inv.same_file;
       same_outputs = c.one_turn.ensures.same_outputs ∙ inv.same_outputs;
       kept = others_both (captures ++ file ∷ outputs) first mid new (others_both (captures ++ file ∷ outputs) first old mid inv.kept (others_one captures file outputs old mid read)) (others_around captures file outputs mid new turned);
-      count = c.in-Ok-true.ensures.cause ∙ c.in-Ok-Line.ensures.cause ∙ inv.count;
+      count = c.in-Ok-true.ensures.read.cause ∙ c.in-Ok-Line.ensures.cause ∙ inv.count;
     }
 
-pub returns-in-Err-clause-kept : goal.returns-in-Err-clause-kept
-returns-in-Err-clause-kept g c =
+pub returns-in-Err-clause-read : goal.returns-in-Err-clause-read
+returns-in-Err-clause-read g c =
     let told = g.F.Files.told in
-    others_outputs c.args.captures.now c.args.journal.now.file (files_of c.args.outputs.now) (told c.args.files.now) (told c.compare_headers.new.files) c.compare_headers.ensures.kept
-
-pub returns-in-Err-clause-among : goal.returns-in-Err-clause-among
-returns-in-Err-clause-among g c =
-    among_more End End c.args.captures.now (files_of c.args.outputs.now) c.args.journal.now.file c.in-Err.stop (among_of End c.args.captures.now (files_of c.args.outputs.now) c.compare_headers.result c.in-Err.stop c.in-Err.is c.compare_headers.ensures.among)
+    record {
+      kept = others_outputs c.args.captures.now c.args.journal.now.file (files_of c.args.outputs.now) (told c.args.files.now) (told c.compare_headers.new.files) c.compare_headers.ensures.kept;
+      cause = search rules;
+      among = among_more End End c.args.captures.now (files_of c.args.outputs.now) c.args.journal.now.file c.in-Err.stop (among_of End c.args.captures.now (files_of c.args.outputs.now) c.compare_headers.result c.in-Err.stop c.in-Err.is c.compare_headers.ensures.among);
+    }
 
 pub returns-then-given-most-clause-reads_all : goal.returns-then-given-most-clause-reads_all
 returns-then-given-most-clause-reads_all g c =
@@ -134,16 +137,16 @@ returns-then-given-most-clause-reads_all g c =
     let inv = c.lines.invariant in
     let heading = c.args.judge.now.heading in
     let f = IsRun (function_of c.args.func.now) (keys_in c.args.keys) heading in
-    let same = inv.captures ∙ sym c.requires.captures in
+    let same = inv.captures ∙ sym c.requires.captures.reads.files in
     let new = told c.end_of.new.files in
     let read : Keeps old new file = subst (λ (n : ℕ). Keeps old new n) inv.same_file c.end_of.ensures.kept in
     let ends = subst (λ (m : ℕ). (at : Option (List ℕ)) (lines : List JournalLine) → Stands at lines c.lines.journal (old.rest m) → IsEnd at lines c.end_of.result) inv.same_file c.end_of.ensures.ends in
     λ start bytes b.
     ends_at f heading c.args.format (length captures) start bytes c.args.feed.now outputs first c.args.most RunFault old new c.lines.feed c.lines.journal file c.lines.outputs c.lines.judge.tables.state c.end_of.result (inv.reached start bytes b) same inv.six (omega (arith, c.if-given-most.true, c.given.ensures))
-    ends c.end_of.ensures.right (outputs_while c.lines.outputs begun file old new inv.same_outputs c.requires.no_output read)
+    ends c.end_of.ensures.right (outputs_while c.lines.outputs begun file old new inv.same_outputs (no_output _ _ _ _ c.requires.files) read)
 
-pub returns-then-given-most-clause-kept : goal.returns-then-given-most-clause-kept
-returns-then-given-most-clause-kept g c =
+pub returns-then-given-most-clause-read : goal.returns-then-given-most-clause-read
+returns-then-given-most-clause-read g c =
     let told = g.F.Files.told in
     let first = told c.args.files.now in
     let old = told c.lines.files in
@@ -154,10 +157,14 @@ returns-then-given-most-clause-kept g c =
     let inv = c.lines.invariant in
     let heading = c.args.judge.now.heading in
     let f = IsRun (function_of c.args.func.now) (keys_in c.args.keys) heading in
-    let same = inv.captures ∙ sym c.requires.captures in
+    let same = inv.captures ∙ sym c.requires.captures.reads.files in
     let new = told c.end_of.new.files in
     let read : Keeps old new file = subst (λ (n : ℕ). Keeps old new n) inv.same_file c.end_of.ensures.kept in
-    others_both (captures ++ file ∷ outputs) first old new inv.kept (others_one captures file outputs old new read)
+    record {
+      kept = others_both (captures ++ file ∷ outputs) first old new inv.kept (others_one captures file outputs old new read);
+      cause = search rules;
+      among = search rules;
+    }
 
 pub returns-in-Ok-End-clause-reads_all : goal.returns-in-Ok-End-clause-reads_all
 returns-in-Ok-End-clause-reads_all g c =
@@ -171,13 +178,13 @@ returns-in-Ok-End-clause-reads_all g c =
     let inv = c.lines.invariant in
     let heading = c.args.judge.now.heading in
     let f = IsRun (function_of c.args.func.now) (keys_in c.args.keys) heading in
-    let same = inv.captures ∙ sym c.requires.captures in
+    let same = inv.captures ∙ sym c.requires.captures.reads.files in
     let mid = told c.next_line.new.files in
     let read : Keeps old mid file = subst (λ (n : ℕ). Keeps old mid n) inv.same_file c.next_line.ensures.kept in
     let gives = rw c.in-Ok-End.field-0-is at c.in-Ok-End.ensures.gives in
     let all = subst (λ (m : ℕ). (at : Option (List ℕ)) (lines : List JournalLine) → Stands at lines c.lines.journal (old.rest m) → AreAllLines at lines) inv.same_file gives in
     λ start bytes b.
-    over_at f heading c.args.format (length captures) start bytes c.args.feed.now outputs first c.args.most old mid c.lines.feed c.lines.journal file c.lines.outputs c.lines.judge.tables.state (inv.reached start bytes b) same inv.six inv.within all (outputs_while c.lines.outputs begun file old mid inv.same_outputs c.requires.no_output read)
+    over_at f heading c.args.format (length captures) start bytes c.args.feed.now outputs first c.args.most old mid c.lines.feed c.lines.journal file c.lines.outputs c.lines.judge.tables.state (inv.reached start bytes b) same inv.six inv.within all (outputs_while c.lines.outputs begun file old mid inv.same_outputs (no_output _ _ _ _ c.requires.files) read)
 
 pub returns-in-Ok-Wrong-clause-reads_all : goal.returns-in-Ok-Wrong-clause-reads_all
 returns-in-Ok-Wrong-clause-reads_all g c =
@@ -191,7 +198,7 @@ returns-in-Ok-Wrong-clause-reads_all g c =
     let inv = c.lines.invariant in
     let heading = c.args.judge.now.heading in
     let f = IsRun (function_of c.args.func.now) (keys_in c.args.keys) heading in
-    let same = inv.captures ∙ sym c.requires.captures in
+    let same = inv.captures ∙ sym c.requires.captures.reads.files in
     let gives = rw c.in-Ok-Wrong.field-0-is at c.in-Ok-Wrong.ensures.gives in
     let wrong = subst (λ (m : ℕ). (at : Option (List ℕ)) (lines : List JournalLine) → Stands at lines c.lines.journal (old.rest m) → journals.IsWrong at lines) inv.same_file gives in
     λ start bytes b.
@@ -209,7 +216,7 @@ returns-in-Ok-false-clause-reads_all g c =
     let inv = c.lines.invariant in
     let heading = c.args.judge.now.heading in
     let f = IsRun (function_of c.args.func.now) (keys_in c.args.keys) heading in
-    let same = inv.captures ∙ sym c.requires.captures in
+    let same = inv.captures ∙ sym c.requires.captures.reads.files in
     let mid = told c.next_line.new.files in
     let read : Keeps old mid file = subst (λ (n : ℕ). Keeps old mid n) inv.same_file c.next_line.ensures.kept in
     let gives = rw c.in-Ok-Line.field-0-is at c.in-Ok-Line.ensures.gives in
@@ -217,17 +224,11 @@ returns-in-Ok-false-clause-reads_all g c =
     λ start bytes b.
     wrong_turn f heading c.args.format (length captures) start bytes c.args.feed.now outputs first c.args.most old mid c.lines.feed c.lines.journal c.next_line.new.journal file c.lines.outputs c.lines.judge.tables.state c.in-Ok-Line.line _ (inv.reached start bytes b) same inv.six (omega (arith, inv.within, c.if-given-most.false, c.given.ensures)) (grind arith)
     (λ at lines stands. gives_at c.lines.journal c.next_line.new.journal old mid c.lines.journal.file file c.in-Ok-Line.line inv.same_file gives at lines stands)
-    (λ port n e. captures_while captures file old mid c.requires.no_capture read port n (sym (ap (λ (fs : List ℕ). slice_get fs port) inv.captures) ∙ e))
+    (λ port n e. captures_while captures file old mid (no_capture _ _ _ _ c.requires.files) read port n (sym (ap (λ (fs : List ℕ). slice_get fs port) inv.captures) ∙ e))
     none
 
-pub returns-in-Err-one_turn-clause-among : goal.returns-in-Err-one_turn-clause-among
-returns-in-Err-one_turn-clause-among g c =
-    let inv = c.lines.invariant in
-    among_more Bool End c.args.captures.now (files_of c.args.outputs.now) c.args.journal.now.file c.in-Err-one_turn.stop
-    (subst (λ (fs : List ℕ). StopsAmong {T = Bool} c.args.captures.now fs (Err c.in-Err-one_turn.stop)) inv.same_outputs c.in-Err-one_turn.ensures.among)
-
-pub returns-in-Ok-End-clause-kept : goal.returns-in-Ok-End-clause-kept
-returns-in-Ok-End-clause-kept g c =
+pub returns-in-Ok-End-clause-read : goal.returns-in-Ok-End-clause-read
+returns-in-Ok-End-clause-read g c =
     let told = g.F.Files.told in
     let first = told c.args.files.now in
     let old = told c.lines.files in
@@ -238,13 +239,17 @@ returns-in-Ok-End-clause-kept g c =
     let inv = c.lines.invariant in
     let heading = c.args.judge.now.heading in
     let f = IsRun (function_of c.args.func.now) (keys_in c.args.keys) heading in
-    let same = inv.captures ∙ sym c.requires.captures in
+    let same = inv.captures ∙ sym c.requires.captures.reads.files in
     let mid = told c.next_line.new.files in
     let read : Keeps old mid file = subst (λ (n : ℕ). Keeps old mid n) inv.same_file c.next_line.ensures.kept in
-    others_both (captures ++ file ∷ outputs) first old mid inv.kept (others_one captures file outputs old mid read)
+    record {
+      kept = others_both (captures ++ file ∷ outputs) first old mid inv.kept (others_one captures file outputs old mid read);
+      cause = search rules;
+      among = search rules;
+    }
 
-pub returns-in-Ok-Wrong-clause-kept : goal.returns-in-Ok-Wrong-clause-kept
-returns-in-Ok-Wrong-clause-kept g c =
+pub returns-in-Ok-Wrong-clause-read : goal.returns-in-Ok-Wrong-clause-read
+returns-in-Ok-Wrong-clause-read g c =
     let told = g.F.Files.told in
     let first = told c.args.files.now in
     let old = told c.lines.files in
@@ -255,13 +260,17 @@ returns-in-Ok-Wrong-clause-kept g c =
     let inv = c.lines.invariant in
     let heading = c.args.judge.now.heading in
     let f = IsRun (function_of c.args.func.now) (keys_in c.args.keys) heading in
-    let same = inv.captures ∙ sym c.requires.captures in
+    let same = inv.captures ∙ sym c.requires.captures.reads.files in
     let mid = told c.next_line.new.files in
     let read : Keeps old mid file = subst (λ (n : ℕ). Keeps old mid n) inv.same_file c.next_line.ensures.kept in
-    others_both (captures ++ file ∷ outputs) first old mid inv.kept (others_one captures file outputs old mid read)
+    record {
+      kept = others_both (captures ++ file ∷ outputs) first old mid inv.kept (others_one captures file outputs old mid read);
+      cause = search rules;
+      among = search rules;
+    }
 
-pub returns-in-Err-next_line-clause-kept : goal.returns-in-Err-next_line-clause-kept
-returns-in-Err-next_line-clause-kept g c =
+pub returns-in-Err-next_line-clause-read : goal.returns-in-Err-next_line-clause-read
+returns-in-Err-next_line-clause-read g c =
     let told = g.F.Files.told in
     let first = told c.args.files.now in
     let old = told c.lines.files in
@@ -272,13 +281,17 @@ returns-in-Err-next_line-clause-kept g c =
     let inv = c.lines.invariant in
     let heading = c.args.judge.now.heading in
     let f = IsRun (function_of c.args.func.now) (keys_in c.args.keys) heading in
-    let same = inv.captures ∙ sym c.requires.captures in
+    let same = inv.captures ∙ sym c.requires.captures.reads.files in
     let mid = told c.next_line.new.files in
     let read : Keeps old mid file = subst (λ (n : ℕ). Keeps old mid n) inv.same_file c.next_line.ensures.kept in
-    others_both (captures ++ file ∷ outputs) first old mid inv.kept (others_one captures file outputs old mid read)
+    record {
+      kept = others_both (captures ++ file ∷ outputs) first old mid inv.kept (others_one captures file outputs old mid read);
+      cause = search rules;
+      among = search rules;
+    }
 
-pub returns-in-Ok-false-clause-kept : goal.returns-in-Ok-false-clause-kept
-returns-in-Ok-false-clause-kept g c =
+pub returns-in-Ok-false-clause-read : goal.returns-in-Ok-false-clause-read
+returns-in-Ok-false-clause-read g c =
     let told = g.F.Files.told in
     let first = told c.args.files.now in
     let old = told c.lines.files in
@@ -289,28 +302,64 @@ returns-in-Ok-false-clause-kept g c =
     let inv = c.lines.invariant in
     let heading = c.args.judge.now.heading in
     let f = IsRun (function_of c.args.func.now) (keys_in c.args.keys) heading in
-    let same = inv.captures ∙ sym c.requires.captures in
-    let mid = told c.next_line.new.files in
-    let read : Keeps old mid file = subst (λ (n : ℕ). Keeps old mid n) inv.same_file c.next_line.ensures.kept in
-    let new = told c.one_turn.new.files in
-    let turned : KeepsOthers (captures ++ outputs) mid new = subst (λ (fs : List ℕ). KeepsOthers (captures ++ fs) mid new) inv.same_outputs c.one_turn.ensures.kept in
-    others_both (captures ++ file ∷ outputs) first mid new (others_both (captures ++ file ∷ outputs) first old mid inv.kept (others_one captures file outputs old mid read)) (others_around captures file outputs mid new turned)
-
-pub returns-in-Err-one_turn-clause-kept : goal.returns-in-Err-one_turn-clause-kept
-returns-in-Err-one_turn-clause-kept g c =
-    let told = g.F.Files.told in
-    let first = told c.args.files.now in
-    let old = told c.lines.files in
-    let captures = c.args.captures.now in
-    let begun = c.args.outputs.now in
-    let outputs = files_of begun in
-    let file = c.args.journal.now.file in
-    let inv = c.lines.invariant in
-    let heading = c.args.judge.now.heading in
-    let f = IsRun (function_of c.args.func.now) (keys_in c.args.keys) heading in
-    let same = inv.captures ∙ sym c.requires.captures in
+    let same = inv.captures ∙ sym c.requires.captures.reads.files in
     let mid = told c.next_line.new.files in
     let read : Keeps old mid file = subst (λ (n : ℕ). Keeps old mid n) inv.same_file c.next_line.ensures.kept in
     let new = told c.one_turn.new.files in
-    let turned : KeepsOthers (captures ++ outputs) mid new = subst (λ (fs : List ℕ). KeepsOthers (captures ++ fs) mid new) inv.same_outputs c.one_turn.ensures.kept in
-    others_both (captures ++ file ∷ outputs) first mid new (others_both (captures ++ file ∷ outputs) first old mid inv.kept (others_one captures file outputs old mid read)) (others_around captures file outputs mid new turned)
+    let turned : KeepsOthers (captures ++ outputs) mid new = subst (λ (fs : List ℕ). KeepsOthers (captures ++ fs) mid new) inv.same_outputs c.one_turn.ensures.read.kept in
+    record {
+      kept = others_both (captures ++ file ∷ outputs) first mid new (others_both (captures ++ file ∷ outputs) first old mid inv.kept (others_one captures file outputs old mid read)) (others_around captures file outputs mid new turned);
+      cause = search rules;
+      among = search rules;
+    }
+
+pub returns-in-Err-one_turn-clause-read : goal.returns-in-Err-one_turn-clause-read
+returns-in-Err-one_turn-clause-read g c =
+    let told = g.F.Files.told in
+    let first = told c.args.files.now in
+    let old = told c.lines.files in
+    let captures = c.args.captures.now in
+    let begun = c.args.outputs.now in
+    let outputs = files_of begun in
+    let file = c.args.journal.now.file in
+    let inv = c.lines.invariant in
+    let heading = c.args.judge.now.heading in
+    let f = IsRun (function_of c.args.func.now) (keys_in c.args.keys) heading in
+    let same = inv.captures ∙ sym c.requires.captures.reads.files in
+    let mid = told c.next_line.new.files in
+    let read : Keeps old mid file = subst (λ (n : ℕ). Keeps old mid n) inv.same_file c.next_line.ensures.kept in
+    let new = told c.one_turn.new.files in
+    let turned : KeepsOthers (captures ++ outputs) mid new = subst (λ (fs : List ℕ). KeepsOthers (captures ++ fs) mid new) inv.same_outputs c.one_turn.ensures.read.kept in
+    record {
+      kept = others_both (captures ++ file ∷ outputs) first mid new (others_both (captures ++ file ∷ outputs) first old mid inv.kept (others_one captures file outputs old mid read)) (others_around captures file outputs mid new turned);
+      cause = search rules;
+      among = among_more Bool End c.args.captures.now (files_of c.args.outputs.now) c.args.journal.now.file c.in-Err-one_turn.stop
+          (subst (λ (fs : List ℕ). StopsAmong {T = Bool} c.args.captures.now fs (Err c.in-Err-one_turn.stop)) inv.same_outputs c.in-Err-one_turn.ensures.read.among);
+    }
+
+pub compare_headers-requires-clause-apart : goal.compare_headers-requires-clause-apart
+compare_headers-requires-clause-apart g c = (are_beside _ _ _ _ c.requires.files).apart
+
+pub one_turn-requires-clause-judges : goal.one_turn-requires-clause-judges
+one_turn-requires-clause-judges g c =
+    let inv = c.lines.invariant in
+    judges_on c.args.func.now c.args.keys c.args.table.now c.args.mode c.args.judge.now c.lines.judge (record { tables = inv.same; heading = inv.same_heading }) c.requires.judges
+
+pub one_turn-requires-clause-captures : goal.one_turn-requires-clause-captures
+one_turn-requires-clause-captures g c =
+    let inv = c.lines.invariant in
+    let given = c.requires.captures in
+    record {
+      reads = record { files = inv.captures; opened = λ k file e. c.next_line.ensures.kept.kinds file ∙ inv.kept.kinds file ∙ given.reads.opened k file e };
+      six = inv.six ∙ given.six;
+      ports = given.ports;
+    }
+
+pub one_turn-requires-clause-beside : goal.one_turn-requires-clause-beside
+one_turn-requires-clause-beside g c =
+    let told = g.F.Files.told in
+    let inv = c.lines.invariant in
+    let captures = c.args.captures.now in
+    let mid = told c.next_line.new.files in
+    subst (λ (fs : List ℕ). AreBeside captures fs mid) (sym inv.same_outputs)
+    (beside_on captures (files_of c.args.outputs.now) (told c.args.files.now) mid (λ file. c.next_line.ensures.kept.kinds file ∙ inv.kept.kinds file) (are_beside _ _ _ _ c.requires.files))

@@ -15,4 +15,4 @@ returns-in-Ok-Packet-clause-counts g c =
 pub returns-in-Ok-End-clause-fetches : goal.returns-in-Ok-End-clause-fetches
 returns-in-Ok-End-clause-fetches g c = λ start given h.
     let feeds = (rw c.in-Ok-End.field-0-is at c.in-Ok-End.ensures.feeds) start given h in
-    subst (λ (all : Option (List Arrival)). AreAll all given) (same_packets c.next.new.self c.args.feed.now start c.next.ensures.same_files c.next.ensures.same_six) feeds.1
+    subst (λ (all : Option (List Arrival)). AreAll all given) (same_packets c.next.new.self c.args.feed.now start c.next.ensures.same.files c.next.ensures.same.six) feeds.1

@@ -1,4 +1,4 @@
-use Rattle.std.proofs.Common.{◌≢◌, ◌++◌, ◌∷◌, [], ℕ, List, Ok, length, sym, ap, subst, ◌∙◌}
+use Rattle.std.proofs.Common.{◌≢◌, ◌++◌, ◌∷◌, [], ℕ, List, Ok, length, sym, ap, subst, ◌∙◌, rules}
 use Rattle.std.specs.List.{All}
 use Rattle.packet_feed.specs.Told.{IsApart, KeepsOthers}
 use Rattle.stream_run.specs.Writing.{StopsAmong}
@@ -15,6 +15,7 @@ use Rattle.replay_run.specs.declared.result.ReplayResult.{ReplayResult}
 use Rattle.replay_run.proofs.Apart.{apart_right, clear_of, without, not_left, not_right, tail_apart}
 use Rattle.replay_run.proofs.Runs.{begins_so}
 use Rattle.replay_run.proofs.Kept.{others_both, others_outputs, among_any}
+use Rattle.replay_run.specs.Given.{AreRead}
 use Rattle.replay_run.proofs.replaying.replay_with.Goals as goal
 
 pub read_lines-requires-clause-opens : goal.read_lines-requires-clause-opens
@@ -25,38 +26,14 @@ read_lines-requires-clause-opens g c =
     subst (λ (x : Heading). IsRun f (keys_in c.args.keys) x [] judge.tables.state) (sym c.in-Ok.ensures.heading)
     (begins_so f c.args.keys h judge.tables.state c.table_of-table.ensures.heading c.table_of-table.ensures.some c.requires.keyed (ap (λ (t : TablesState). t.state) c.in-Ok.ensures.tables))
 
-pub read_lines-requires-clause-apart : goal.read_lines-requires-clause-apart
-read_lines-requires-clause-apart g c =
-    let outputs = c.args.outputs.now in
-    let j = c.args.journal.now.file in
-    subst (λ (fs : List ℕ). IsApart fs) (sym c.in-Ok-begin.ensures.files) (tail_apart j outputs (apart_right c.args.captures.now (j ∷ outputs) c.requires.apart))
-
-pub read_lines-requires-clause-clear : goal.read_lines-requires-clause-clear
-read_lines-requires-clause-clear g c =
-    let outputs = c.args.outputs.now in
-    let j = c.args.journal.now.file in
-    subst (λ (fs : List ℕ). AreClear c.args.captures.now fs) (sym c.in-Ok-begin.ensures.files) (without c.args.captures.now j outputs (clear_of c.args.captures.now (j ∷ outputs) c.requires.apart))
-
-pub read_lines-requires-clause-no_capture : goal.read_lines-requires-clause-no_capture
-read_lines-requires-clause-no_capture g c =
-    let outputs = c.args.outputs.now in
-    let j = c.args.journal.now.file in
-    not_left c.args.captures.now j outputs (clear_of c.args.captures.now (j ∷ outputs) c.requires.apart)
-
-pub read_lines-requires-clause-no_output : goal.read_lines-requires-clause-no_output
-read_lines-requires-clause-no_output g c =
-    let outputs = c.args.outputs.now in
-    let j = c.args.journal.now.file in
-    subst (λ (fs : List ℕ). All (λ f. f ≢ j) fs) (sym c.in-Ok-begin.ensures.files) (not_right j outputs (apart_right c.args.captures.now (j ∷ outputs) c.requires.apart))
-
 pub finish-requires-clause-apart : goal.finish-requires-clause-apart
 finish-requires-clause-apart g c =
     let outputs = c.args.outputs.now in
     let j = c.args.journal.now.file in
-    subst (λ (fs : List ℕ). IsApart fs) (sym (c.read_lines.ensures.same_outputs ∙ c.in-Ok-begin.ensures.files)) (tail_apart j outputs (apart_right c.args.captures.now (j ∷ outputs) c.requires.apart))
+    subst (λ (fs : List ℕ). IsApart fs) (sym (c.read_lines.ensures.same_outputs ∙ c.in-Ok-begin.ensures.files)) (tail_apart j outputs (apart_right c.args.captures.now (j ∷ outputs) c.requires.files.apart))
 
-pub returns-clause-kept : goal.returns-clause-kept
-returns-clause-kept g c =
+pub returns-clause-read : goal.returns-clause-read
+returns-clause-read g c =
     let told = g.F.Files.told in
     let start = told c.args.files.now in
     let mid = told c.read_lines.new.files in
@@ -64,15 +41,14 @@ returns-clause-kept g c =
     let captures = c.args.captures.now in
     let outputs = c.args.outputs.now in
     let j = c.args.journal.now.file in
-    let one = subst (λ (fs : List ℕ). KeepsOthers (captures ++ j ∷ fs) start mid) c.in-Ok-begin.ensures.files c.read_lines.ensures.kept in
+    let one = subst (λ (fs : List ℕ). KeepsOthers (captures ++ j ∷ fs) start mid) c.in-Ok-begin.ensures.files c.read_lines.ensures.read.kept in
     let two = subst (λ (fs : List ℕ). KeepsOthers fs mid new) (c.read_lines.ensures.same_outputs ∙ c.in-Ok-begin.ensures.files) c.finish.ensures.kept in
-    others_both (captures ++ j ∷ outputs) start mid new one (others_outputs captures j outputs mid new two)
-
-pub returns-clause-among : goal.returns-clause-among
-returns-clause-among g c =
-    let outputs = c.args.outputs.now in
-    among_any ReplayResult c.args.captures.now outputs c.args.journal.now.file c.finish.result
-    (subst (λ (fs : List ℕ). StopsAmong [] fs c.finish.result) (c.read_lines.ensures.same_outputs ∙ c.in-Ok-begin.ensures.files) c.finish.ensures.among)
+    record {
+      kept = others_both (captures ++ j ∷ outputs) start mid new one (others_outputs captures j outputs mid new two);
+      cause = search rules;
+      among = among_any ReplayResult c.args.captures.now outputs c.args.journal.now.file c.finish.result
+          (subst (λ (fs : List ℕ). StopsAmong [] fs c.finish.result) (c.read_lines.ensures.same_outputs ∙ c.in-Ok-begin.ensures.files) c.finish.ensures.among);
+    }
 
 pub returns-in-Wrong-clause-replays : goal.returns-in-Wrong-clause-replays
 returns-in-Wrong-clause-replays g c = λ start bytes b.
@@ -100,4 +76,9 @@ returns-clause-replays g c = λ start bytes b.
     c.read_lines.new.outputs c.read_lines.new.judge.tables.state (Ok end.Over) c.in-Ok.ensures.heading c.in-Ok-begin.ensures.files reads start bytes b in
     let r = c.finish.result in
     let finishes = subst (λ (fs : List ℕ). Finishes (sent c.args.format c.args.header ports over.hs) old.rest fs c.read_lines.new.judge.tables.state r) files (c.finish.ensures.finishes old.rest (sent c.args.format c.args.header ports over.hs) over.compared) in
-    finished f c.args.header c.args.format ports c.args.feed.now start bytes c.args.outputs.now old c.args.most (told c.read_lines.new.files) c.read_lines.new.outputs c.read_lines.new.judge.tables.state r (sym c.requires.as_many) over finishes
+    finished f c.args.header c.args.format ports c.args.feed.now start bytes c.args.outputs.now old c.args.most (told c.read_lines.new.files) c.read_lines.new.outputs c.read_lines.new.judge.tables.state r (sym c.requires.files.as_many) over finishes
+
+pub read_lines-requires-clause-files : goal.read_lines-requires-clause-files
+read_lines-requires-clause-files g c =
+    let told = g.F.Files.told c.args.files.now in
+    subst (λ (fs : List ℕ). AreRead c.args.captures.now c.args.journal.now.file fs told) (sym c.in-Ok-begin.ensures.files) c.requires.files

@@ -1,9 +1,9 @@
-use Rattle.std.proofs.Common.{◌+◌, ℕ, Option, sym, subst}
+use Rattle.std.proofs.Common.{ℕ, Option, sym, subst}
 use Rattle.call_base.specs.Outside.{seen}
-use Rattle.run_call.specs.Progress.{HasRun, asked, ports_of, end_of}
-use Rattle.call_base.proofs.Ending.{last_is, targets_empty}
+use Rattle.run_call.specs.Progress.{HasRun, asked, end_of}
+use Rattle.call_base.proofs.Ending.{last_is}
 use Rattle.run_call.proofs.Beginning.{halted}
-use Rattle.run_call.proofs.Workers.{one_finished, one_halted}
+use Rattle.run_call.proofs.Workers.{one_finished, one_halted, has_captures, has_targets}
 use Rattle.run_call.proofs.running.run_one.Goals as goal
 use Rattle.lock_mode.specs.Gates.{Rose}
 use Rattle.run_history.specs.declared.line.Mode.TheVariants.{One}
@@ -11,7 +11,7 @@ use Rattle.run_history.specs.declared.line.Mode.TheVariants.{One}
 pub leave_ran-requires : goal.leave_ran-requires
 leave_ran-requires g c κs within =
     let ready = c.requires.1.1.1.1.1 in
-    (within, (c.requires.1.0, last_is c.args.job.now.layout.ports ready.created c.run.ensures.kept.next_same c.requires.1.0.ports))
+    (within, (c.requires.1.0, last_is c.args.job.now.layout.ports ready.created c.run.ensures.went.kept.next_same c.requires.1.0.ports))
 
 pub returns-in-Ok : goal.returns-in-Ok
 returns-in-Ok g c =
@@ -22,7 +22,7 @@ returns-in-Ok g c =
     record {
       runs = λ old new. c.leave_ran.ensures.runs old new
           (subst (λ (t : Option (ℕ × ℕ)). HasRun (Rose old new) g.before b job One c.in-Ok.ran.packets c.in-Ok.ran.state (end_of (asked job).most c.in-Ok.ran.ending t)) (sym c.torn.ensures)
-          (one_finished _ g.before (seen (told c.args.files.now) (counted c.args.files.now)) b job c.args.captures.now c.args.targets.now c.args.feed.now c.run.new.feed c.in-Ok.ran c.requires.1.0 c.requires.1.1.0 c.requires.1.1.1.1.1 c.in-Ok.ensures.runs c.run.ensures.kept c.in-Ok.ensures.cause));
+          (one_finished _ g.before (seen (told c.args.files.now) (counted c.args.files.now)) b job c.args.captures.now c.args.targets.now c.args.feed.now c.run.new.feed c.in-Ok.ran c.requires.1.0 c.requires.1.1.0 c.requires.1.1.1.1.1 c.in-Ok.ensures.runs c.run.ensures.went.kept c.in-Ok.ensures.went.cause));
     }
 
 pub returns-in-Err : goal.returns-in-Err
@@ -33,5 +33,15 @@ returns-in-Err g c =
     let b = seen (told c.run.new.files) (counted c.run.new.files) in
     record {
       runs = λ old new. halted g.before b job c.in-Err.stop c.halt.result c.requires.1.0 c.halt.ensures
-          (one_halted (Rose old new) g.before (seen (told c.args.files.now) (counted c.args.files.now)) b job c.args.captures.now c.args.targets.now c.args.feed.now c.in-Err.stop c.requires.1.0 c.requires.1.1.0 c.requires.1.1.1.1.1 c.in-Err.ensures.runs c.run.ensures.kept c.in-Err.ensures.cause c.in-Err.ensures.among);
+          (one_halted (Rose old new) g.before (seen (told c.args.files.now) (counted c.args.files.now)) b job c.args.captures.now c.args.targets.now c.args.feed.now c.in-Err.stop c.requires.1.0 c.requires.1.1.0 c.requires.1.1.1.1.1 c.in-Err.ensures.runs c.run.ensures.went.kept c.in-Err.ensures.went.cause c.in-Err.ensures.went.among);
     }
+
+pub run-requires-clause-captures : goal.run-requires-clause-captures
+run-requires-clause-captures g c =
+    let now = seen (g.F.Files.told c.args.files.now) (g.F.Files.counted c.args.files.now) in
+    has_captures g.before now c.args.job.now c.args.captures.now c.args.targets.now c.args.feed.now c.requires.1.0 c.requires.1.1.1.1.1 c.requires.1.1.1.0
+
+pub run-requires-clause-targets : goal.run-requires-clause-targets
+run-requires-clause-targets g c =
+    let now = seen (g.F.Files.told c.args.files.now) (g.F.Files.counted c.args.files.now) in
+    has_targets g.before now c.args.job.now c.args.captures.now c.args.targets.now c.args.feed.now c.requires.1.0 c.requires.1.1.1.1.1 c.requires.1.1.1.1.0

@@ -1,19 +1,17 @@
-use Rattle.std.proofs.Common.{◌+◌, ℕ, Option, sym, subst, arith}
-use Rattle.std.proofs.lemmas.Option.{slice_get_within}
-use Rattle.nf_files.specs.Told.{IsEmptyIfTold}
+use Rattle.std.proofs.Common.{ℕ, Option, sym, subst}
 use Rattle.lock_mode.specs.Gates.{Rose}
 use Rattle.call_base.specs.Outside.{seen}
-use Rattle.run_call.specs.Progress.{HasRun, asked, ports_of, end_of}
-use Rattle.call_base.proofs.Ending.{last_is, targets_empty}
+use Rattle.run_call.specs.Progress.{HasRun, asked, end_of}
+use Rattle.call_base.proofs.Ending.{last_is}
 use Rattle.run_call.proofs.Beginning.{halted}
-use Rattle.run_call.proofs.Workers.{tables_finished, tables_halted}
+use Rattle.run_call.proofs.Workers.{tables_finished, tables_halted, has_captures, has_targets}
 use Rattle.run_call.proofs.running.run_tables.Goals as goal
 
 pub leave_ran-requires : goal.leave_ran-requires
 leave_ran-requires g c κs within =
     let requires = c.requires.1.1.1.1.1.1.1 in
     let ready = requires.1.1.1.1 in
-    (within, (requires.0, last_is c.args.job.now.layout.ports ready.created c.run.ensures.kept.next_same requires.0.ports))
+    (within, (requires.0, last_is c.args.job.now.layout.ports ready.created c.run.ensures.went.kept.next_same requires.0.ports))
 
 pub returns-in-Ok : goal.returns-in-Ok
 returns-in-Ok g c =
@@ -28,7 +26,7 @@ returns-in-Ok g c =
     record {
       runs = c.leave_ran.ensures.runs Old New
           (subst (λ (t : Option (ℕ × ℕ)). HasRun (Rose Old New) g.before b job came.mode came.ran.packets came.ran.state (end_of (asked job).most came.ran.ending t)) (sym c.torn.ensures)
-          (tables_finished (Rose Old New) g.before (seen (told c.args.files.now) (counted c.args.files.now)) b job c.args.captures.now c.args.targets.now c.args.feed.now c.run.new.feed came requires.0 requires.1.0 requires.1.1.1.1 c.in-Ok.ensures.runs c.run.ensures.kept c.in-Ok.ensures.cause));
+          (tables_finished (Rose Old New) g.before (seen (told c.args.files.now) (counted c.args.files.now)) b job c.args.captures.now c.args.targets.now c.args.feed.now c.run.new.feed came requires.0 requires.1.0 requires.1.1.1.1 c.in-Ok.ensures.runs c.run.ensures.went.kept c.in-Ok.ensures.went.cause));
     }
 
 pub returns-in-Err : goal.returns-in-Err
@@ -40,9 +38,15 @@ returns-in-Err g c =
     let b = seen (told c.run.new.files) (counted c.run.new.files) in
     record {
       runs = halted g.before b job c.in-Err.stop c.halt.result requires.0 c.halt.ensures
-          (tables_halted (Rose (g.L.Gate.refused c.args.gate.now) (g.L.Gate.refused c.run.new.gate)) g.before (seen (told c.args.files.now) (counted c.args.files.now)) b job c.args.captures.now c.args.targets.now c.args.feed.now c.in-Err.stop requires.0 requires.1.0 requires.1.1.1.1 c.in-Err.ensures.runs c.run.ensures.kept c.in-Err.ensures.cause c.in-Err.ensures.among);
+          (tables_halted (Rose (g.L.Gate.refused c.args.gate.now) (g.L.Gate.refused c.run.new.gate)) g.before (seen (told c.args.files.now) (counted c.args.files.now)) b job c.args.captures.now c.args.targets.now c.args.feed.now c.in-Err.stop requires.0 requires.1.0 requires.1.1.1.1 c.in-Err.ensures.runs c.run.ensures.went.kept c.in-Err.ensures.went.cause c.in-Err.ensures.went.among);
     }
 
-pub run-requires-clause-empty : goal.run-requires-clause-empty
-run-requires-clause-empty g c κs lives k file e =
-    targets_empty c.requires.1.1.1.1.1.1.1.1.1.1.1.created k file e
+pub run-requires-clause-captures : goal.run-requires-clause-captures
+run-requires-clause-captures g c κs lives =
+    let now = seen (g.F.Files.told c.args.files.now) (g.F.Files.counted c.args.files.now) in
+    has_captures g.before now c.args.job.now c.args.captures.now c.args.targets.now c.args.feed.now c.requires.1.1.1.1.1.1.1.0 c.requires.1.1.1.1.1.1.1.1.1.1.1 c.requires.1.1.1.1.1.1.1.1.1.0
+
+pub run-requires-clause-targets : goal.run-requires-clause-targets
+run-requires-clause-targets g c κs lives =
+    let now = seen (g.F.Files.told c.args.files.now) (g.F.Files.counted c.args.files.now) in
+    has_targets g.before now c.args.job.now c.args.captures.now c.args.targets.now c.args.feed.now c.requires.1.1.1.1.1.1.1.0 c.requires.1.1.1.1.1.1.1.1.1.1.1 c.requires.1.1.1.1.1.1.1.1.1.1.0

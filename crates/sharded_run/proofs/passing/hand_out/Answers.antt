@@ -1,5 +1,5 @@
 use Rattle.std.proofs.Common.{◌∙◌, refl, sym, arith}
-use Rattle.sharded_run.proofs.Went.{went_ok, went_err, went_memory}
+use Rattle.stream_run.proofs.Went.{went_ok, went_err, went_memory}
 use Rattle.sharded_run.proofs.Passed.{passing_cut, passing_still}
 use Rattle.sharded_run.proofs.passing.hand_out.Goals as goal
 

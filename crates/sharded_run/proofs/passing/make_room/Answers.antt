@@ -1,6 +1,6 @@
 use Rattle.std.proofs.Common.{◌∙◌, [], None, refl, arith}
 use Rattle.stream_run.specs.Writing.{files_of}
-use Rattle.sharded_run.proofs.Went.{went_none, went_ok, went_then, still_created}
+use Rattle.stream_run.proofs.Went.{went_none, went_ok, went_then, still_writable}
 use Rattle.sharded_run.proofs.Passed.{same_both}
 use Rattle.sharded_run.proofs.passing.make_room.Goals as goal
 
@@ -49,8 +49,8 @@ loop-preserved g c =
       rests = λ n. c.write_next.ensures.rests n ∙ inv.rests n;
     }
 
-pub write_next-requires-clause-created : goal.write_next-requires-clause-created
-write_next-requires-clause-created g c =
+pub write_next-requires-clause-writable : goal.write_next-requires-clause-writable
+write_next-requires-clause-writable g c =
     let told = g.F.Files.told in
     let inv = c.loop.invariant in
-    still_created (files_of c.args.sinks.now) (files_of c.loop.sinks) (told c.args.files.now) (told c.loop.files) (inv.went []).kept inv.same_files c.requires.created
+    still_writable (files_of c.args.sinks.now) (files_of c.loop.sinks) (told c.args.files.now) (told c.loop.files) (inv.went []).kept inv.same_files c.requires.writable

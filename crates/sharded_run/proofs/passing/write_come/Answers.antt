@@ -1,8 +1,6 @@
-use Rattle.std.proofs.Common.{◌≡◌, ◌≤◌, ◌∙◌, ℕ, List, [], length, ap, sym, subst, refl, arith}
-use Rattle.std.proofs.lemmas.List.{length-map}
-use Rattle.packet_feed.specs.Told.{IsApart}
+use Rattle.std.proofs.Common.{◌∙◌, [], refl, arith}
 use Rattle.stream_run.specs.Writing.{files_of}
-use Rattle.sharded_run.proofs.Went.{went_none, went_ok, went_then, still_created}
+use Rattle.stream_run.proofs.Went.{went_none, went_ok, went_then, still_writable}
 use Rattle.sharded_run.proofs.Passed.{same_both, some_first}
 use Rattle.sharded_run.proofs.passing.write_come.Goals as goal
 
@@ -22,20 +20,11 @@ write_ready-requires-clause-some g c =
     let has = c.is_ready.ensures.yes c.if-not-is_ready.false in
     omega (arith, some_first has.queue c.loop.crew.line.order.items has.first, c.loop.crew.as_many)
 
-pub write_ready-requires-clause-created : goal.write_ready-requires-clause-created
-write_ready-requires-clause-created g c =
+pub write_ready-requires-clause-writable : goal.write_ready-requires-clause-writable
+write_ready-requires-clause-writable g c =
     let told = g.F.Files.told in
     let inv = c.loop.invariant in
-    still_created (files_of c.args.sinks.now) (files_of c.loop.sinks) (told c.args.files.now) (told c.loop.files) (inv.went []).kept inv.same_files c.requires.created
-
-pub write_ready-requires-clause-apart : goal.write_ready-requires-clause-apart
-write_ready-requires-clause-apart g c =
-    subst (λ (fs : List ℕ). IsApart fs) (sym c.loop.invariant.same_files) c.requires.apart
-
-pub write_ready-requires-clause-few : goal.write_ready-requires-clause-few
-write_ready-requires-clause-few g c =
-    let as_many : length c.loop.sinks ≡ length c.args.sinks.now = sym (length-map c.loop.sinks (λ s. s.file)) ∙ ap (λ (fs : List ℕ). length fs) c.loop.invariant.same_files ∙ length-map c.args.sinks.now (λ s. s.file) in
-    subst (λ (n : ℕ). n ≤ 4294967296) (sym as_many) c.requires.few
+    still_writable (files_of c.args.sinks.now) (files_of c.loop.sinks) (told c.args.files.now) (told c.loop.files) (inv.went []).kept inv.same_files c.requires.writable
 
 pub returns-in-Err-clause-wrote : goal.returns-in-Err-clause-wrote
 returns-in-Err-clause-wrote g c = λ x card format all st. c.in-Err.ensures.wrote x card format all (c.loop.invariant.passing x card format all st)

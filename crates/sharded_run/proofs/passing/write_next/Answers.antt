@@ -1,7 +1,7 @@
 use Rattle.std.proofs.Common.{None, map, refl}
 use Rattle.packet_feed.specs.Arrivals.{packet_of}
 use Rattle.stream_run.specs.Writing.{files_of}
-use Rattle.sharded_run.proofs.Went.{went_none, went_ok, went_err}
+use Rattle.stream_run.proofs.Went.{went_none, went_ok, went_err}
 use Rattle.sharded_run.proofs.Passed.{passing_still}
 use Rattle.sharded_run.proofs.passing.write_next.Goals as goal
 

@@ -5,7 +5,7 @@ use Rattle.shard_core.specs.declared.collected.Collected.{Collected}
 use Rattle.short_answers.specs.Answers.{done_told}
 use Rattle.stream_run.specs.Writing.{files_of}
 use Rattle.sharded_run.specs.Answered.{answered}
-use Rattle.sharded_run.proofs.Went.{went_written, unwritten}
+use Rattle.stream_run.proofs.Went.{went_written, unwritten}
 use Rattle.sharded_run.proofs.Passed.{wrote_on, wrote_cut}
 use Rattle.sharded_run.proofs.passing.write_ready.Goals as goal
 

@@ -13,7 +13,7 @@ returns-in-Err-clause-runs g c =
     let told = g.F.Files.told in
     let n = length c.args.func.now.handlers in
     cut_short_at (function_of c.args.func.now) n c.args.keys.now c.args.workers c.args.card c.args.format c.args.feed.now (told c.args.files.now) (told c.args.files.now) c.args.targets.now (counted c.args.func.now)
-    (halts_none (function_of c.args.func.now) c.args.keys.now c.args.workers c.args.card c.args.format n c.args.feed.now (told c.args.files.now) c.args.targets.now c.requires.empty)
+    (halts_none (function_of c.args.func.now) c.args.keys.now c.args.workers c.args.card c.args.format n c.args.feed.now (told c.args.files.now) c.args.targets.now c.requires.targets.empty)
 
 pub stream-requires-clause-heads : goal.stream-requires-clause-heads
 stream-requires-clause-heads g c = λ κs lives.
@@ -22,7 +22,7 @@ stream-requires-clause-heads g c = λ κs lives.
       c.args.card,
       c.args.format,
       heads_held Shard c.args.workers c.args.card c.args.format n (told c.args.files.now) c.in-Ok.sinks c.args.targets.now c.in-Ok.ensures.files
-          (λ k s e. let first = c.in-Ok.ensures.heads k s e in (first.0, first.1 ∙ ap (λ (m : ℕ). head Shard c.args.workers c.args.card c.args.format m k) c.len-ports.ensures.value)) c.requires.empty,
+          (λ k s e. let first = c.in-Ok.ensures.heads k s e in (first.0, first.1 ∙ ap (λ (m : ℕ). head Shard c.args.workers c.args.card c.args.format m k) c.len-ports.ensures.value)) c.requires.targets.empty,
     )
 
 pub returns-clause-runs : goal.returns-clause-runs
@@ -30,6 +30,6 @@ returns-clause-runs g c =
     let told = g.F.Files.told in
     let n = length c.args.func.now.handlers in
     let heads = heads_held Shard c.args.workers c.args.card c.args.format n (told c.args.files.now) c.in-Ok.sinks c.args.targets.now c.in-Ok.ensures.files
-    (λ k s e. let first = c.in-Ok.ensures.heads k s e in (first.0, first.1 ∙ ap (λ (m : ℕ). head Shard c.args.workers c.args.card c.args.format m k) c.len-ports.ensures.value)) c.requires.empty in
+    (λ k s e. let first = c.in-Ok.ensures.heads k s e in (first.0, first.1 ∙ ap (λ (m : ℕ). head Shard c.args.workers c.args.card c.args.format m k) c.len-ports.ensures.value)) c.requires.targets.empty in
     subst (λ (fs : List ℕ). Runs (function_of c.args.func.now) c.args.keys.now c.args.workers c.args.card c.args.format c.args.feed.now (told c.args.files.now) c.stream.new.feed (told c.stream.new.files) fs c.stream.result)
     c.in-Ok.ensures.files (c.stream.ensures.runs c.args.card c.args.format heads)

@@ -12,7 +12,7 @@ use Rattle.sharded_run.specs.Going.{IsMadeOf}
 use Rattle.sharded_run.proofs.Begun.{share_by, is_setup, halts_begun}
 use Rattle.sharded_run.proofs.Complete.{counted, cut_short_at}
 use Rattle.sharded_run.proofs.Concluded.{new_flows, parts_of_one, runs_cut, runs_full, runs_over, runs_whole}
-use Rattle.sharded_run.proofs.Went.{went_none, went_ok, went_memory}
+use Rattle.stream_run.proofs.Went.{went_none, went_ok, went_memory}
 use Rattle.sharded_run.proofs.running.stream.Goals as goal
 
 pub returns-in-Err-clause-runs : goal.returns-in-Err-clause-runs
@@ -30,7 +30,7 @@ returns-in-Err-clause-went g c =
     went_memory captures files told told count count (tt {0}) fault.Memory refl (went_none captures files told count (tt {0}))
 
 pub flow-ended-requires-clause-keyed : goal.flow-ended-requires-clause-keyed
-flow-ended-requires-clause-keyed g c = omega (arith, c.requires.keyed, c.requires.ports, ap (λ k. length k.ports) c.in-Ok.ensures.keys_are)
+flow-ended-requires-clause-keyed g c = omega (arith, c.requires.keyed, c.requires.captures.ports, ap (λ k. length k.ports) c.in-Ok.ensures.keys_are)
 
 pub returns-in-Ok-Full-clause-runs : goal.returns-in-Ok-Full-clause-runs
 returns-in-Ok-Full-clause-runs g c = λ card format held.
@@ -47,9 +47,9 @@ returns-in-Ok-Full-clause-runs g c = λ card format held.
     let share = share_by workers some c.requires.most in
     let x = setup_of (function_of func) keys workers share in
     let is = is_setup (function_of func) keys workers some c.requires.most in
-    let long = ap (λ (fs : List ℕ). length fs) c.requires.captures in
-    let h = new_flows {E = RunFault} func keys workers n card format some c.requires.most begun c.flow-ended.new.feed start now c.args.sinks.now c.in-Ok.crew c.flow-ended.new.crew files (Ok (over.Full c.in-Ok-Full.full)) c.in-Ok.ensures c.requires.ports c.requires.six long held (rw c.in-Ok-Full.field-0-is at c.in-Ok-Full.ensures.flows) in
-    runs_full func keys workers share card format begun start now files c.flow-ended.new.crew c.finish-parts.result.0.items is c.requires.several c.requires.alike n (c.requires.ports ∙ counted func) c.requires.new c.in-Ok-Full.full h (c.finish-parts.ensures.finishes x (map packet_of h.all) h.got h.stands)
+    let long = ap (λ (fs : List ℕ). length fs) c.requires.captures.reads.files in
+    let h = new_flows {E = RunFault} func keys workers n card format some c.requires.most begun c.flow-ended.new.feed start now c.args.sinks.now c.in-Ok.crew c.flow-ended.new.crew files (Ok (over.Full c.in-Ok-Full.full)) c.in-Ok.ensures c.requires.captures.ports c.requires.captures.six long held (rw c.in-Ok-Full.field-0-is at c.in-Ok-Full.ensures.flows) in
+    runs_full func keys workers share card format begun start now files c.flow-ended.new.crew c.finish-parts.result.0.items is c.requires.several c.requires.alike n (c.requires.captures.ports ∙ counted func) c.requires.new c.in-Ok-Full.full h (c.finish-parts.ensures.finishes x (map packet_of h.all) h.got h.stands)
 
 pub returns-in-Ok-Full-clause-went : goal.returns-in-Ok-Full-clause-went
 returns-in-Ok-Full-clause-went g c = went_ok c.args.captures.now _ _ _ _ _ _ _ c.in-Ok-Full.ensures.went
@@ -69,8 +69,8 @@ conclude-requires-clause-some g c =
     let share = share_by workers some c.requires.most in
     let x = setup_of (function_of func) keys workers share in
     let is = is_setup (function_of func) keys workers some c.requires.most in
-    let long = ap (λ (fs : List ℕ). length fs) c.requires.captures in
-    let h = new_flows {E = RunFault} func keys workers n c.requires.heads.0 c.requires.heads.1 some c.requires.most begun c.flow-ended.new.feed start now c.args.sinks.now c.in-Ok.crew c.flow-ended.new.crew files (Ok (over.Over c.in-Ok-Over.ending)) c.in-Ok.ensures c.requires.ports c.requires.six long c.requires.heads.2 (rw c.in-Ok-Over.field-0-is at c.in-Ok-Over.ensures.flows) in
+    let long = ap (λ (fs : List ℕ). length fs) c.requires.captures.reads.files in
+    let h = new_flows {E = RunFault} func keys workers n c.requires.heads.0 c.requires.heads.1 some c.requires.most begun c.flow-ended.new.feed start now c.args.sinks.now c.in-Ok.crew c.flow-ended.new.crew files (Ok (over.Over c.in-Ok-Over.ending)) c.in-Ok.ensures c.requires.captures.ports c.requires.captures.six long c.requires.heads.2 (rw c.in-Ok-Over.field-0-is at c.in-Ok-Over.ensures.flows) in
     let fin = (c.finish-parts.ensures.finishes x (map packet_of h.all) h.got h.stands) in
     omega (arith, fin.count, c.requires.several, ap (λ (ps : List TablesState). length ps) c.as_slice.ensures.value)
 
@@ -89,8 +89,8 @@ conclude-requires-clause-of_one g c =
     let share = share_by workers some c.requires.most in
     let x = setup_of (function_of func) keys workers share in
     let is = is_setup (function_of func) keys workers some c.requires.most in
-    let long = ap (λ (fs : List ℕ). length fs) c.requires.captures in
-    let h = new_flows {E = RunFault} func keys workers n c.requires.heads.0 c.requires.heads.1 some c.requires.most begun c.flow-ended.new.feed start now c.args.sinks.now c.in-Ok.crew c.flow-ended.new.crew files (Ok (over.Over c.in-Ok-Over.ending)) c.in-Ok.ensures c.requires.ports c.requires.six long c.requires.heads.2 (rw c.in-Ok-Over.field-0-is at c.in-Ok-Over.ensures.flows) in
+    let long = ap (λ (fs : List ℕ). length fs) c.requires.captures.reads.files in
+    let h = new_flows {E = RunFault} func keys workers n c.requires.heads.0 c.requires.heads.1 some c.requires.most begun c.flow-ended.new.feed start now c.args.sinks.now c.in-Ok.crew c.flow-ended.new.crew files (Ok (over.Over c.in-Ok-Over.ending)) c.in-Ok.ensures c.requires.captures.ports c.requires.captures.six long c.requires.heads.2 (rw c.in-Ok-Over.field-0-is at c.in-Ok-Over.ensures.flows) in
     subst (AreOf func.chains) (sym c.as_slice.ensures.value) (parts_of_one func keys workers share c.flow-ended.new.crew h.all h.got c.finish-parts.result.0.items (c.finish-parts.ensures.finishes x (map packet_of h.all) h.got h.stands))
 
 pub returns-in-Ok-conclude-clause-runs : goal.returns-in-Ok-conclude-clause-runs
@@ -108,10 +108,10 @@ returns-in-Ok-conclude-clause-runs g c = λ card format held.
     let share = share_by workers some c.requires.most in
     let x = setup_of (function_of func) keys workers share in
     let is = is_setup (function_of func) keys workers some c.requires.most in
-    let long = ap (λ (fs : List ℕ). length fs) c.requires.captures in
-    let h = new_flows {E = RunFault} func keys workers n card format some c.requires.most begun c.flow-ended.new.feed start now c.args.sinks.now c.in-Ok.crew c.flow-ended.new.crew files (Ok (over.Over c.in-Ok-Over.ending)) c.in-Ok.ensures c.requires.ports c.requires.six long held (rw c.in-Ok-Over.field-0-is at c.in-Ok-Over.ensures.flows) in
+    let long = ap (λ (fs : List ℕ). length fs) c.requires.captures.reads.files in
+    let h = new_flows {E = RunFault} func keys workers n card format some c.requires.most begun c.flow-ended.new.feed start now c.args.sinks.now c.in-Ok.crew c.flow-ended.new.crew files (Ok (over.Over c.in-Ok-Over.ending)) c.in-Ok.ensures c.requires.captures.ports c.requires.captures.six long held (rw c.in-Ok-Over.field-0-is at c.in-Ok-Over.ensures.flows) in
     let tables = c.as_slice.result.now in
-    runs_over func keys workers share card format begun start now files c.flow-ended.new.crew c.finish-parts.result.0.items is c.requires.several c.requires.alike n (c.requires.ports ∙ counted func) c.requires.new c.flow-ended.new.feed c.in-Ok-Over.ending c.in-Ok-conclude.ran c.given.result h (c.finish-parts.ensures.finishes x (map packet_of h.all) h.got h.stands) c.given.ensures
+    runs_over func keys workers share card format begun start now files c.flow-ended.new.crew c.finish-parts.result.0.items is c.requires.several c.requires.alike n (c.requires.captures.ports ∙ counted func) c.requires.new c.flow-ended.new.feed c.in-Ok-Over.ending c.in-Ok-conclude.ran c.given.result h (c.finish-parts.ensures.finishes x (map packet_of h.all) h.got h.stands) c.given.ensures
     (λ hs v worked made. c.in-Ok-conclude.ensures keys workers hs v c.requires.several c.requires.alike worked
     (subst (λ (t : ℕ). IsMadeOf v func tables t) (sym c.finish-parts.ensures.time) (subst (λ (ps : List TablesState). IsMadeOf v func ps c.flow-ended.new.crew.line.time) (sym c.as_slice.ensures.value) made)))
 
@@ -133,9 +133,9 @@ returns-in-Ok-Over-clause-runs g c = λ card format held.
     let share = share_by workers some c.requires.most in
     let x = setup_of (function_of func) keys workers share in
     let is = is_setup (function_of func) keys workers some c.requires.most in
-    let long = ap (λ (fs : List ℕ). length fs) c.requires.captures in
-    let h = new_flows {E = RunFault} func keys workers n card format some c.requires.most begun c.flow-ended.new.feed start now c.args.sinks.now c.in-Ok.crew c.flow-ended.new.crew files (Ok (over.Over c.in-Ok-Over.ending)) c.in-Ok.ensures c.requires.ports c.requires.six long held (rw c.in-Ok-Over.field-0-is at c.in-Ok-Over.ensures.flows) in
-    runs_whole func keys workers share card format begun start now files c.flow-ended.new.crew c.finish-parts.result.0.items is c.requires.several c.requires.alike n (c.requires.ports ∙ counted func) c.requires.new c.flow-ended.new.feed c.in-Ok-Over.ending h (c.finish-parts.ensures.finishes x (map packet_of h.all) h.got h.stands)
+    let long = ap (λ (fs : List ℕ). length fs) c.requires.captures.reads.files in
+    let h = new_flows {E = RunFault} func keys workers n card format some c.requires.most begun c.flow-ended.new.feed start now c.args.sinks.now c.in-Ok.crew c.flow-ended.new.crew files (Ok (over.Over c.in-Ok-Over.ending)) c.in-Ok.ensures c.requires.captures.ports c.requires.captures.six long held (rw c.in-Ok-Over.field-0-is at c.in-Ok-Over.ensures.flows) in
+    runs_whole func keys workers share card format begun start now files c.flow-ended.new.crew c.finish-parts.result.0.items is c.requires.several c.requires.alike n (c.requires.captures.ports ∙ counted func) c.requires.new c.flow-ended.new.feed c.in-Ok-Over.ending h (c.finish-parts.ensures.finishes x (map packet_of h.all) h.got h.stands)
 
 pub returns-clause-runs : goal.returns-clause-runs
 returns-clause-runs g c = λ card format held.
@@ -152,6 +152,6 @@ returns-clause-runs g c = λ card format held.
     let share = share_by workers some c.requires.most in
     let x = setup_of (function_of func) keys workers share in
     let is = is_setup (function_of func) keys workers some c.requires.most in
-    let long = ap (λ (fs : List ℕ). length fs) c.requires.captures in
-    let h = new_flows {E = RunFault} func keys workers n card format some c.requires.most begun c.flow-ended.new.feed start now c.args.sinks.now c.in-Ok.crew c.flow-ended.new.crew files (Err c.in-Err-ended.stop) c.in-Ok.ensures c.requires.ports c.requires.six long held c.in-Err-ended.ensures.flows in
-    runs_cut func keys workers share card format begun start now files c.flow-ended.new.crew c.finish-parts.result.0.items is c.requires.several c.requires.alike n (c.requires.ports ∙ counted func) c.requires.new h.0 h.1 h.2 (c.finish-parts.ensures.finishes x (map packet_of h.0) h.1 h.2) h.3 h.4
+    let long = ap (λ (fs : List ℕ). length fs) c.requires.captures.reads.files in
+    let h = new_flows {E = RunFault} func keys workers n card format some c.requires.most begun c.flow-ended.new.feed start now c.args.sinks.now c.in-Ok.crew c.flow-ended.new.crew files (Err c.in-Err-ended.stop) c.in-Ok.ensures c.requires.captures.ports c.requires.captures.six long held c.in-Err-ended.ensures.flows in
+    runs_cut func keys workers share card format begun start now files c.flow-ended.new.crew c.finish-parts.result.0.items is c.requires.several c.requires.alike n (c.requires.captures.ports ∙ counted func) c.requires.new h.0 h.1 h.2 (c.finish-parts.ensures.finishes x (map packet_of h.0) h.1 h.2) h.3 h.4

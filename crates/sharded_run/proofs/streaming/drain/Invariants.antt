@@ -3,8 +3,8 @@ use Rattle.nf_base.specs.declared.card.Card.{Card}
 use Rattle.capture_format.specs.declared.format.CaptureFormat.{CaptureFormat}
 use Rattle.packet_feed.specs.Arrivals.{Arrival}
 use Rattle.shard_machine.specs.Machine.{Setup}
-use Rattle.stream_run.specs.Writing.{files_of}
-use Rattle.sharded_run.specs.Passing.{WentOn, Passing, SameCrew}
+use Rattle.stream_run.specs.Writing.{files_of, WentOn}
+use Rattle.sharded_run.specs.Passing.{Passing, SameCrew}
 use Rattle.sharded_run.proofs.streaming.drain.Given as goal
 
 -- what was written so far

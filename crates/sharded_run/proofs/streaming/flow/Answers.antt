@@ -5,7 +5,7 @@ use Rattle.stream_run.specs.declared.fault.RunFault.{RunFault}
 use Rattle.stream_run.specs.Writing.{files_of, AreHeld, AreFronts}
 use Rattle.stream_run.proofs.Complete.{empty_told}
 use Rattle.sharded_run.specs.Going.{AreWhole}
-use Rattle.sharded_run.proofs.Went.{went_then, went_written, unwritten}
+use Rattle.stream_run.proofs.Went.{went_then, went_written, unwritten}
 use Rattle.sharded_run.proofs.Flowed.{flows_ok, flows_err}
 use Rattle.sharded_run.proofs.streaming.flow.Goals as goal
 

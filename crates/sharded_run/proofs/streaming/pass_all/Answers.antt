@@ -2,7 +2,7 @@ use Rattle.std.proofs.Common.{◌≡◌, ◌∙◌, ◌++◌, ◌∷◌, [], len
 use Rattle.stream_run.specs.Writing.{files_of}
 use Rattle.sharded_run.specs.declared.result.ShareFull.{ShareFull}
 use Rattle.sharded_run.specs.Passing.{MeetsStop}
-use Rattle.sharded_run.proofs.Went.{went_none, went_ok, went_err, went_then, still_created, still_opened}
+use Rattle.stream_run.proofs.Went.{went_none, went_ok, went_err, went_then, still_writable, still_reads}
 use Rattle.sharded_run.proofs.Flowed.{suits_on, flows_as, stops_in, held_at, fronts_at, some_met, cut_short}
 use Rattle.sharded_run.proofs.streaming.pass_all.Goals as goal
 
@@ -13,7 +13,7 @@ loop-init g c =
       passing = λ x card format begun start all suits ports st h. (all, st, h);
       router = refl;
       ports_same = refl;
-      captures = c.requires.captures;
+      captures = c.requires.captures.files;
       six = refl;
       fewer = c.requires.fewer;
       same_files = refl;
@@ -33,8 +33,8 @@ loop-preserved g c =
           (p.0 ++ q.0 ∷ [], q.1, q.2);
       router = on.same.router ∙ inv.router;
       ports_same = on.same.ports ∙ inv.ports_same;
-      captures = on.fed.0 ∙ inv.captures;
-      six = on.fed.1 ∙ inv.six;
+      captures = on.fed.files ∙ inv.captures;
+      six = on.fed.six ∙ inv.six;
       fewer = on.fewer;
       same_files = on.same_files ∙ inv.same_files;
       went = went_then c.args.captures.now _ _ _ _ _ _ _ _ (tt {0}) _ inv.same_files inv.went (went_ok c.args.captures.now _ _ _ _ _ _ (tt {0}) c.in-Ok-On.ensures.went);
@@ -102,14 +102,14 @@ returns-in-Err-clause-went g c =
     let inv = c.loop.invariant in
     went_then c.args.captures.now _ _ _ _ _ _ _ _ (tt {0}) _ inv.same_files inv.went (went_err c.args.captures.now _ _ _ _ _ c.in-Err.stop c.in-Err.ensures.went)
 
-pub pass_one-requires-clause-created : goal.pass_one-requires-clause-created
-pass_one-requires-clause-created g c =
+pub pass_one-requires-clause-writable : goal.pass_one-requires-clause-writable
+pass_one-requires-clause-writable g c =
     let told = g.F.Files.told in
     let inv = c.loop.invariant in
-    still_created (files_of c.args.sinks.now) (files_of c.loop.sinks) (told c.args.files.now) (told c.loop.files) inv.went.kept inv.same_files c.requires.created
+    still_writable (files_of c.args.sinks.now) (files_of c.loop.sinks) (told c.args.files.now) (told c.loop.files) inv.went.kept inv.same_files c.requires.writable
 
-pub pass_one-requires-clause-opened : goal.pass_one-requires-clause-opened
-pass_one-requires-clause-opened g c =
+pub pass_one-requires-clause-captures : goal.pass_one-requires-clause-captures
+pass_one-requires-clause-captures g c =
     let told = g.F.Files.told in
     let inv = c.loop.invariant in
-    still_opened (files_of c.args.sinks.now) c.args.captures.now c.args.captures.now (told c.args.files.now) (told c.loop.files) inv.went.kept refl c.requires.opened
+    still_reads (files_of c.args.sinks.now) c.args.captures.now c.args.feed.now c.loop.feed (told c.args.files.now) (told c.loop.files) inv.went.kept inv.captures c.requires.captures

@@ -1,4 +1,4 @@
-use Rattle.std.proofs.Common.{◌≡◌, ◌≤◌, ℕ, List, length, Ok}
+use Rattle.std.proofs.Common.{◌≡◌, ◌≤◌, List, length, Ok}
 use Rattle.nf_base.specs.declared.card.Card.{Card}
 use Rattle.capture_format.specs.declared.format.CaptureFormat.{CaptureFormat}
 use Rattle.nf_files.specs.Told.{Told}
@@ -6,8 +6,8 @@ use Rattle.packet_feed.specs.Arrivals.{Arrival}
 use Rattle.packet_feed.specs.Feeding.{Feeding}
 use Rattle.packet_feed.specs.Sources.{files_in, sixes_in}
 use Rattle.shard_machine.specs.Machine.{Setup}
-use Rattle.stream_run.specs.Writing.{files_of}
-use Rattle.sharded_run.specs.Passing.{WentOn, Passing, Suits}
+use Rattle.stream_run.specs.Writing.{files_of, WentOn}
+use Rattle.sharded_run.specs.Passing.{Passing, Suits}
 use Rattle.sharded_run.specs.Reading.{Gathers}
 use Rattle.sharded_run.proofs.streaming.pass_all.Given as goal
 

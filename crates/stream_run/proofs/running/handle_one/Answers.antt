@@ -81,3 +81,6 @@ returns-clause-handles g c =
           (subst (λ (x : Handled). AreHeld One 1 card format c.len.result hs (told c.args.files.now) c.args.sinks.now → AllGoOn One 1 card format c.len.result (hs ++ x ∷ []) (told c.put_parts.new.files) c.put_parts.new.sinks c.put_parts.result) handled_is all) in
           by_ports held;
     }
+
+pub returns-clause-wrote : goal.returns-clause-wrote
+returns-clause-wrote g c = record { kept = c.put_parts.ensures.kept; cause = c.put_parts.ensures.cause; among = c.put_parts.ensures.among }

@@ -18,8 +18,8 @@ flush_full-requires g c =
     let lt : k < length now = omega (arith, c.len-k-end.ensures, c.loop-k-test.true, same_length now c.args.sinks.now inv.same_files) in
     let at = slice_get_read now (length now) k s refl lt c.item_mut-sink.ensures.value in
     let file = sym (ap (λ (fs : List ℕ). slice_get fs k) inv.same_files) ∙ file_at now k s at in
-    let apart = subst (λ (fs : List ℕ). IsApart fs) (sym inv.same_files) c.requires.apart in
-    record { created = inv.kept.kinds s.file ∙ c.requires.created k s.file file }
+    let apart = subst (λ (fs : List ℕ). IsApart fs) (sym inv.same_files) c.requires.writable.apart in
+    record { created = inv.kept.kinds s.file ∙ c.requires.writable.created k s.file file }
 
 pub returns-in-Err-clause-goes_on : goal.returns-in-Err-clause-goes_on
 returns-in-Err-clause-goes_on g c = λ mode workers card format ports hs held j f q.
@@ -31,7 +31,7 @@ returns-in-Err-clause-goes_on g c = λ mode workers card format ports hs held j 
     let lt : k < length now = omega (arith, c.len-k-end.ensures, c.loop-k-test.true, same_length now c.args.sinks.now inv.same_files) in
     let at = slice_get_read now (length now) k s refl lt c.item_mut-sink.ensures.value in
     let file = sym (ap (λ (fs : List ℕ). slice_get fs k) inv.same_files) ∙ file_at now k s at in
-    let apart = subst (λ (fs : List ℕ). IsApart fs) (sym inv.same_files) c.requires.apart in
+    let apart = subst (λ (fs : List ℕ). IsApart fs) (sym inv.same_files) c.requires.writable.apart in
     let same = map_kept (λ (x : Holding). x.file) now k s c.flush_full.new.self at c.flush_full.ensures.same_file in
     partly_fronts format (λ j. bytes_of mode workers card format ports j hs) (λ j. bytes_of mode workers card format ports j hs) now k s (told c.loop-k.files) (told c.flush_full.new.files) apart at c.flush_full.ensures.kept (λ j. same_bytes (bytes_of mode workers card format ports j hs)) (λ x. c.in-Err.ensures.goes_on (bytes_of mode workers card format ports k hs) x) (inv.partly mode workers card format ports hs held) j f (ap (λ (fs : List ℕ). slice_get fs j) (sym same) ∙ q)
 
@@ -45,7 +45,7 @@ returns-in-Err-clause-same_files g c =
     let lt : k < length now = omega (arith, c.len-k-end.ensures, c.loop-k-test.true, same_length now c.args.sinks.now inv.same_files) in
     let at = slice_get_read now (length now) k s refl lt c.item_mut-sink.ensures.value in
     let file = sym (ap (λ (fs : List ℕ). slice_get fs k) inv.same_files) ∙ file_at now k s at in
-    let apart = subst (λ (fs : List ℕ). IsApart fs) (sym inv.same_files) c.requires.apart in
+    let apart = subst (λ (fs : List ℕ). IsApart fs) (sym inv.same_files) c.requires.writable.apart in
     map_kept (λ (x : Holding). x.file) now k s c.flush_full.new.self at c.flush_full.ensures.same_file ∙ inv.same_files
 
 pub returns-in-Err-clause-kept : goal.returns-in-Err-clause-kept
@@ -58,7 +58,7 @@ returns-in-Err-clause-kept g c =
     let lt : k < length now = omega (arith, c.len-k-end.ensures, c.loop-k-test.true, same_length now c.args.sinks.now inv.same_files) in
     let at = slice_get_read now (length now) k s refl lt c.item_mut-sink.ensures.value in
     let file = sym (ap (λ (fs : List ℕ). slice_get fs k) inv.same_files) ∙ file_at now k s at in
-    let apart = subst (λ (fs : List ℕ). IsApart fs) (sym inv.same_files) c.requires.apart in
+    let apart = subst (λ (fs : List ℕ). IsApart fs) (sym inv.same_files) c.requires.writable.apart in
     kept_more (files_of c.args.sinks.now) k s.file (told c.args.files.now) (told c.loop-k.files) (told c.flush_full.new.files) file inv.kept c.flush_full.ensures.kept
 
 pub loop-k-init : goal.loop-k-init
@@ -82,7 +82,7 @@ loop-k-preserved g c =
     let lt : k < length now = omega (arith, c.len-k-end.ensures, c.loop-k-test.true, same_length now c.args.sinks.now inv.same_files) in
     let at = slice_get_read now (length now) k s refl lt c.item_mut-sink.ensures.value in
     let file = sym (ap (λ (fs : List ℕ). slice_get fs k) inv.same_files) ∙ file_at now k s at in
-    let apart = subst (λ (fs : List ℕ). IsApart fs) (sym inv.same_files) c.requires.apart in
+    let apart = subst (λ (fs : List ℕ). IsApart fs) (sym inv.same_files) c.requires.writable.apart in
     record {
       partly = λ mode workers card format ports hs held. partly_more format (λ j. bytes_of mode workers card format ports j hs) (λ j. bytes_of mode workers card format ports j hs) now k s c.flush_full.new.self (told c.loop-k.files) (told c.flush_full.new.files) apart at c.flush_full.ensures.same_file c.flush_full.ensures.same_format c.flush_full.ensures.kept (λ x. c.in-Ok.ensures.goes_on (bytes_of mode workers card format ports k hs) x) (inv.partly mode workers card format ports hs held);
       little = little_more now k c.flush_full.new.self c.in-Ok.ensures.little inv.little;

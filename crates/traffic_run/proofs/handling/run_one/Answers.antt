@@ -2,7 +2,7 @@ use Rattle.std.proofs.Common.{length}
 use Rattle.nf_base.specs.Functions.{function_of}
 use Rattle.nf_base.specs.Doors.{six_ports}
 use Rattle.traffic_run.specs.TrafficSpecs.{asked_for}
-use Rattle.traffic_run.proofs.Over.{whole_one, cut_one}
+use Rattle.traffic_run.proofs.Over.{has_captures, whole_one, cut_one}
 use Rattle.traffic_run.proofs.handling.run_one.Goals as goal
 
 pub returns-in-Ok-clause-leaves : goal.returns-in-Ok-clause-leaves
@@ -18,10 +18,7 @@ returns-in-Err-clause-leaves g c =
     cut_one c.args.asked.now.card c.args.asked.now.format ⊥ (function_of c.args.func.now) (six_ports (function_of c.args.func.now)) c.args.captures.now c.args.feed.now (told c.args.files.now) all (told c.run.new.files) c.args.targets.now c.requires.started c.in-Err.ensures.runs
 
 pub run-requires-clause-captures : goal.run-requires-clause-captures
-run-requires-clause-captures g c = c.requires.started.files
+run-requires-clause-captures g c = has_captures c.args.func.now c.args.captures.now c.args.feed.now (g.F.Files.told c.args.files.now) _ c.requires.started c.requires.ports c.requires.opened
 
 pub run-requires-clause-new : goal.run-requires-clause-new
 run-requires-clause-new g c = c.requires.started.given
-
-pub run-requires-clause-six : goal.run-requires-clause-six
-run-requires-clause-six g c = c.requires.started.six_is

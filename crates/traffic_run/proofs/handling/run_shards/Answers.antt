@@ -2,7 +2,7 @@ use Rattle.std.proofs.Common.{length}
 use Rattle.nf_base.specs.Functions.{function_of}
 use Rattle.nf_base.specs.Doors.{six_ports}
 use Rattle.traffic_run.specs.TrafficSpecs.{asked_for}
-use Rattle.traffic_run.proofs.Over.{whole_shards, full_shards, cut_shards}
+use Rattle.traffic_run.proofs.Over.{has_captures, whole_shards, full_shards, cut_shards}
 use Rattle.traffic_run.proofs.handling.run_shards.Goals as goal
 
 pub returns-in-Ok-Ran-clause-leaves : goal.returns-in-Ok-Ran-clause-leaves
@@ -26,10 +26,7 @@ returns-in-Err-clause-leaves g c =
     cut_shards c.args.asked.now.card c.args.asked.now.format ⊥ (function_of c.args.func.now) c.args.keys.now c.args.workers (six_ports (function_of c.args.func.now)) c.args.captures.now c.args.feed.now (told c.args.files.now) all (told c.run.new.files) c.args.targets.now c.requires.started c.in-Err.ensures.runs
 
 pub run-requires-clause-captures : goal.run-requires-clause-captures
-run-requires-clause-captures g c = λ κs lives. c.requires.started.files
+run-requires-clause-captures g c = λ κs lives. has_captures c.args.func.now c.args.captures.now c.args.feed.now (g.F.Files.told c.args.files.now) _ c.requires.started c.requires.ports c.requires.opened
 
 pub run-requires-clause-new : goal.run-requires-clause-new
 run-requires-clause-new g c = λ κs lives. c.requires.started.given
-
-pub run-requires-clause-six : goal.run-requires-clause-six
-run-requires-clause-six g c = λ κs lives. c.requires.started.six_is

@@ -74,8 +74,8 @@ returns-clause-runs g c =
     (came_runs c.args.worker_plan.now c.args.asked.card c.args.asked.format Refused (function_of c.args.func.now) r (told c.run_made-handled.new.files) c.args.targets.now c.args.first n handled.bytes handled.result (omega (arith, arrivals_long r, c.count.ensures.value, c.count.ensures.within)) (handlers_are c.args.func.now) c.requires.few_ports c.requires.as_many c.requires.numbers
     c.run_made-handled.ensures.counts c.run_made-handled.ensures.leaves)
 
-pub returns-clause-cause : goal.returns-clause-cause
-returns-clause-cause g c =
+pub returns-clause-went : goal.returns-clause-went
+returns-clause-went g c =
     let counted = g.F.Files.counted in
     let n = length c.args.func.now.handlers in
     let handled = c.run_made-handled.result in
@@ -83,18 +83,12 @@ returns-clause-cause g c =
     let made = made_at c.args.asked n c.len-ports.result c.count.result c.in-Ok.captures c.len-ports.ensures.value c.count.ensures.value c.in-Ok.ensures in
     let low = ltb-true (c.args.first + c.len-ports.result + c.len-ports.result) (2 ^ 32) (sym c.is_low.ensures ∙ c.if-not-is_low.false) in
     let came : c.came_of.result ≡ came_of c.args.asked.format c.args.first n handled.bytes handled.result = c.came_of.ensures ∙ ap (λ (p : ℕ). came_of c.args.asked.format c.args.first p handled.bytes handled.result) count in
-    subst (λ (x : Result TrafficResult RunFault). IsStopCause (counted c.args.files.now) (counted c.run_made-handled.new.files) x) (sym came)
-    (came_causes c.args.asked.format c.as_slice-numbers.result.now c.args.targets.now c.args.first n handled.bytes (counted c.args.files.now) (counted c.run_made-handled.new.files) handled.result
-    (c.as_slice-numbers.ensures.value ∙ numbered c.args.asked n c.in-Ok.captures c.in-Ok-numbers.numbers.items made c.in-Ok-numbers.ensures.value) c.requires.as_many c.requires.numbers (omega (arith, low, count)) c.run_made-handled.ensures.known c.run_made-handled.ensures.among c.run_made-handled.ensures.cause)
-
-pub returns-clause-among : goal.returns-clause-among
-returns-clause-among g c =
-    let n = length c.args.func.now.handlers in
-    let handled = c.run_made-handled.result in
-    let count : c.len-ports.result ≡ n = c.len-ports.ensures.value in
-    let made = made_at c.args.asked n c.len-ports.result c.count.result c.in-Ok.captures c.len-ports.ensures.value c.count.ensures.value c.in-Ok.ensures in
-    let low = ltb-true (c.args.first + c.len-ports.result + c.len-ports.result) (2 ^ 32) (sym c.is_low.ensures ∙ c.if-not-is_low.false) in
-    let came : c.came_of.result ≡ came_of c.args.asked.format c.args.first n handled.bytes handled.result = c.came_of.ensures ∙ ap (λ (p : ℕ). came_of c.args.asked.format c.args.first p handled.bytes handled.result) count in
-    subst (λ (x : Result TrafficResult RunFault). StopsAmong [] c.args.targets.now x) (sym came)
-    (came_among c.args.asked.format c.as_slice-numbers.result.now c.args.targets.now c.args.first n handled.bytes handled.result
-    (c.as_slice-numbers.ensures.value ∙ numbered c.args.asked n c.in-Ok.captures c.in-Ok-numbers.numbers.items made c.in-Ok-numbers.ensures.value) c.requires.as_many c.requires.numbers (omega (arith, low, count)) c.run_made-handled.ensures.among)
+    record {
+      kept = c.run_made-handled.ensures.went.kept;
+      cause = subst (λ (x : Result TrafficResult RunFault). IsStopCause (counted c.args.files.now) (counted c.run_made-handled.new.files) x) (sym came)
+          (came_causes c.args.asked.format c.as_slice-numbers.result.now c.args.targets.now c.args.first n handled.bytes (counted c.args.files.now) (counted c.run_made-handled.new.files) handled.result
+          (c.as_slice-numbers.ensures.value ∙ numbered c.args.asked n c.in-Ok.captures c.in-Ok-numbers.numbers.items made c.in-Ok-numbers.ensures.value) c.requires.as_many c.requires.numbers (omega (arith, low, count)) c.run_made-handled.ensures.known c.run_made-handled.ensures.went.among c.run_made-handled.ensures.went.cause);
+      among = subst (λ (x : Result TrafficResult RunFault). StopsAmong [] c.args.targets.now x) (sym came)
+          (came_among c.args.asked.format c.as_slice-numbers.result.now c.args.targets.now c.args.first n handled.bytes handled.result
+          (c.as_slice-numbers.ensures.value ∙ numbered c.args.asked n c.in-Ok.captures c.in-Ok-numbers.numbers.items made c.in-Ok-numbers.ensures.value) c.requires.as_many c.requires.numbers (omega (arith, low, count)) c.run_made-handled.ensures.went.among);
+    }

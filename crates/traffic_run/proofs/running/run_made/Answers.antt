@@ -4,6 +4,7 @@ use Rattle.nf_base.specs.Doors.{six_ports}
 use Rattle.nf_base.specs.Functions.{function_of}
 use Rattle.made_captures.specs.Told.{with_made}
 use Rattle.made_captures.specs.Outputs.{Counting, counts_right, is_known, journal_of, mark_of, told_if}
+use Rattle.stream_run.specs.Given.{HasTargets}
 use Rattle.traffic_run.specs.TrafficSpecs.{asked_for}
 use Rattle.traffic_run.specs.Runs.{ArePackets}
 use Rattle.traffic_run.proofs.Known.{starts_right}
@@ -37,3 +38,16 @@ pub run_beside-result-requires-clause-low : goal.run_beside-result-requires-clau
 run_beside-result-requires-clause-low g c κs within =
     let outputs = c.beside-beside.ensures.outputs ∙ c.new-outputs.ensures in
     rw (outputs, c.beside-beside.ensures.captures) (omega (arith, c.requires.fit, c.len.ensures.value))
+
+pub run_beside-result-requires-clause-targets : goal.run_beside-result-requires-clause-targets
+run_beside-result-requires-clause-targets g c κs within =
+    let told = g.F.Files.told in
+    let targets = c.args.targets.now in
+    let numbers = c.requires.numbers in
+    subst (λ files. HasTargets c.args.func.now targets (told files)) (sym c.beside-beside.ensures.files)
+    (record {
+      writable = record { created = c.requires.created; apart = λ i j f k p q ne e. ne (omega (arith, numbers i f p, numbers j k q, e)) };
+      as_many = c.requires.as_many;
+      few = omega (arith, c.requires.as_many, c.requires.ports, c.requires.few_ports);
+      empty = c.requires.empty;
+    })

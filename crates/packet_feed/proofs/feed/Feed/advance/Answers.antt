@@ -47,13 +47,14 @@ returns-else-self-clause-counts g c =
     let most = ap (λ (v : Feeding). v.most) c.self.view_is in
     (omega arith, omega (arith, c.if-self.false), next_shown c.in-Some.first.port (c.self.inside.given + 1) c.self.inside.most (last_at c.in-Some.first.port (slice_get c.pass.new.sources c.in-Some.first.port)) c.fill_next.new.sources c.pass.new.sources c.pass.ensures)
 
-pub returns-else-self-clause-same_files : goal.returns-else-self-clause-same_files
-returns-else-self-clause-same_files g c =
-    next_files c.in-Some.first.port (last_at c.in-Some.first.port (slice_get c.pass.new.sources c.in-Some.first.port)) c.fill_next.new.sources c.pass.new.sources c.pass.ensures ∙ c.fill_next.ensures.same_files ∙ ap (λ (v : Feeding). files_in v.sources) c.self.view_is
-
-pub returns-else-self-clause-same_six : goal.returns-else-self-clause-same_six
-returns-else-self-clause-same_six g c =
-    next_sixes c.in-Some.first.port (last_at c.in-Some.first.port (slice_get c.pass.new.sources c.in-Some.first.port)) c.fill_next.new.sources c.pass.new.sources c.pass.ensures ∙ c.fill_next.ensures.same_six ∙ ap (λ (v : Feeding). sixes_in v.sources) c.self.view_is
+pub returns-else-self-clause-same : goal.returns-else-self-clause-same
+returns-else-self-clause-same g c =
+    let given = last_at c.in-Some.first.port (slice_get c.pass.new.sources c.in-Some.first.port) in
+    record {
+      files = next_files c.in-Some.first.port given c.fill_next.new.sources c.pass.new.sources c.pass.ensures ∙ c.fill_next.ensures.same_files ∙ ap (λ (v : Feeding). files_in v.sources) c.self.view_is;
+      six = next_sixes c.in-Some.first.port given c.fill_next.new.sources c.pass.new.sources c.pass.ensures ∙ c.fill_next.ensures.same_six ∙ ap (λ (v : Feeding). sixes_in v.sources) c.self.view_is;
+      most = ap (λ (v : Feeding). v.most) c.self.view_is;
+    }
 
 pub returns-then-self-clause-times : goal.returns-then-self-clause-times
 returns-then-self-clause-times g c = λ time h. c.in_ok-fill_next.ensures.later time (subst (λ (v : Feeding). AreFrom time v.sources) (sym c.self.view_is) h)

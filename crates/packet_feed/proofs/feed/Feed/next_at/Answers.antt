@@ -45,10 +45,9 @@ returns-in-Some-clause-counts g c =
     let given = ap (λ (v : Feeding). v.given) c.self.view_is in
     (omega arith, same_port c.args.port c.in-Some.packet c.fill_at.new.sources c.give_at.new.sources c.in-Some.ensures.0, next_shown c.args.port (c.self.inside.given + 1) c.self.inside.most c.in-Some.packet c.fill_at.new.sources c.give_at.new.sources c.in-Some.ensures.0)
 
-pub returns-in-Some-clause-same_files : goal.returns-in-Some-clause-same_files
-returns-in-Some-clause-same_files g c =
-    next_files c.args.port c.in-Some.packet c.fill_at.new.sources c.give_at.new.sources c.in-Some.ensures.0 ∙ c.fill_at.ensures.same_files ∙ ap (λ (v : Feeding). files_in v.sources) c.self.view_is
-
-pub returns-in-Some-clause-same_six : goal.returns-in-Some-clause-same_six
-returns-in-Some-clause-same_six g c =
-    next_sixes c.args.port c.in-Some.packet c.fill_at.new.sources c.give_at.new.sources c.in-Some.ensures.0 ∙ c.fill_at.ensures.same_six ∙ ap (λ (v : Feeding). sixes_in v.sources) c.self.view_is
+pub returns-in-Some-clause-same : goal.returns-in-Some-clause-same
+returns-in-Some-clause-same g c = record {
+  files = next_files c.args.port c.in-Some.packet c.fill_at.new.sources c.give_at.new.sources c.in-Some.ensures.0 ∙ c.fill_at.ensures.same_files ∙ ap (λ (v : Feeding). files_in v.sources) c.self.view_is;
+  six = next_sixes c.args.port c.in-Some.packet c.fill_at.new.sources c.give_at.new.sources c.in-Some.ensures.0 ∙ c.fill_at.ensures.same_six ∙ ap (λ (v : Feeding). sixes_in v.sources) c.self.view_is;
+  most = ap (λ (v : Feeding). v.most) c.self.view_is;
+}

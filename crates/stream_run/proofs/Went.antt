@@ -3,16 +3,18 @@ use Rattle.std.proofs.Common.{◌≡◌, ℕ, List, [], Option, Some, None, Resu
 use Rattle.std.specs.List.{slice_get}
 use Rattle.nf_files.specs.Told.{Told, IsRead, IsWritten}
 use Rattle.nf_files.specs.Causes.{Counted}
-use Rattle.packet_feed.specs.Told.{EachFile, KeepsOthers}
+use Rattle.packet_feed.specs.Told.{EachFile, IsApart, KeepsOthers}
+use Rattle.packet_feed.specs.Feeding.{Feeding}
+use Rattle.packet_feed.specs.Sources.{files_in}
 use Rattle.packet_feed.specs.Faults.{FaultedAt, IsCause}
 use Rattle.packet_feed.specs.declared.fault.FeedFault.{FeedFault}
 use Rattle.packet_feed.specs.declared.fault.FeedFault.TheVariants as feed
 use Rattle.stream_run.specs.declared.fault.RunFault.{RunFault}
 use Rattle.stream_run.specs.declared.fault.RunFault.TheVariants as fault
 use Rattle.stream_run.specs.Streaming.{stop_on, stop_in}
-use Rattle.stream_run.specs.Writing.{KeepsAllBut, KeepsBut, IsStopCause, StopsAmong}
+use Rattle.stream_run.specs.Given.{ReadsFrom, AreWritable}
+use Rattle.stream_run.specs.Writing.{KeepsAllBut, KeepsBut, IsStopCause, StopsAmong, WentOn}
 use Rattle.stream_run.proofs.Held.{but_both, but_none, but_read, but_written, stops_wider, stops_reading}
-use Rattle.sharded_run.specs.Passing.{WentOn}
 
 -- files that were created are still written, by whichever name of theirs
 pub still_created : (files now : List ℕ) (old new : Told) → KeepsBut files old new → now ≡ files → EachFile (IsWritten old) files → EachFile (IsWritten new) now
@@ -21,6 +23,13 @@ still_created files now old new kept same created = λ port file e. kept.kinds f
 -- and files that were opened still read
 pub still_opened : (files captures now : List ℕ) (old new : Told) → KeepsBut files old new → now ≡ captures → EachFile (IsRead old) captures → EachFile (IsRead new) now
 still_opened files captures now old new kept same opened = λ port file e. kept.kinds file ∙ opened port file (ap (λ (fs : List ℕ). slice_get fs port) (sym same) ∙ e)
+
+-- the same of all that is asked of files
+pub still_writable : (files now : List ℕ) (old new : Told) → KeepsBut files old new → now ≡ files → AreWritable old files → AreWritable new now
+still_writable files now old new kept same w = record { created = still_created files now old new kept same w.created; apart = subst IsApart (sym same) w.apart }
+
+pub still_reads : (files captures : List ℕ) (begun feed : Feeding) (old new : Told) → KeepsBut files old new → files_in feed.sources ≡ captures → ReadsFrom captures begun old → ReadsFrom captures feed new
+still_reads files captures begun feed old new kept same r = record { files = same; opened = still_opened files captures captures old new kept refl r.opened }
 
 pub went_none : {T : Type 0} (captures files : List ℕ) (told : Told) (count : Counted) (t : T) → WentOn captures files told told count count (Ok t)
 went_none captures files told count t = record { kept = but_none files told; cause = refl; among = tt }
@@ -51,11 +60,15 @@ went_memory {T} {U} captures files old new a b t stop is h =
 pub went_then : {T U : Type 0} (captures files all : List ℕ) (old now new : Told) (a b c : Counted) (t : T) (r : Result U RunFault) → all ≡ files → WentOn {T = T} captures files old now a b (Ok t) → WentOn captures all now new b c r → WentOn captures files old new a c r
 went_then captures files all old now new a b c t r same h k = went_both captures files old now new a b c t r h (subst (λ (fs : List ℕ). WentOn captures fs now new b c r) same k)
 
--- ---- files are written
-
 cause_as : (T U : Type 0) (a b : Counted) (stop : RunFault) → IsStopCause {T = T} a b (Err stop) → IsStopCause {T = U} a b (Err stop)
 cause_as T U a b (fault.File file) h = h
 cause_as T U a b fault.Memory h = h
+
+-- a fault of the files that are written, where captures are read too
+pub went_wider : {T U : Type 0} (captures files : List ℕ) (old new : Told) (a b : Counted) (stop : RunFault) → WentOn {T = T} [] files old new a b (Err stop) → WentOn {T = U} captures files old new a b (Err stop)
+went_wider {T} {U} captures files old new a b stop h = record { kept = h.kept; cause = cause_as T U a b stop h.cause; among = stops_wider T U captures files files stop refl h.among }
+
+-- ---- files are written
 
 pub went_written : {T : Type 0} (captures files all : List ℕ) (old new : Told) (a b : Counted) (t : T) → all ≡ files → KeepsAllBut all old new → b ≡ a → WentOn captures files old new a b (Ok t)
 went_written captures files all old new a b t same kept cause = record { kept = but_written files all old new same kept; cause = cause; among = tt }
