@@ -32,7 +32,7 @@ returns-in-Ok g c =
     let now = seen (told c.leave_run.new.files) (counted c.leave_run.new.files) in
     let whole = c.in-Ok-Whole in
     let came = rw whole.field-0-is at whole.ensures.runs in
-    let behind = done since a b job c.args.targets.now c.args.worker_plan.now _ _ whole.mode whole.state whole.sent requires.0 requires.1.1.1.1.1 requires.1.1.0 refl (first_is g.before a job c.args.targets.now requires.1.1.1.1.1) came whole.ensures.kept whole.ensures.cause in
+    let behind = done since a b job c.args.targets.now c.args.worker_plan.now _ _ whole.mode whole.state whole.sent requires.0 requires.1.1.1.1.1 requires.1.1.0 refl (first_is g.before a job c.args.targets.now requires.1.1.1.1.1) came whole.ensures.went.kept whole.ensures.went.cause in
     record { gens = finished since b now job whole.mode whole.state whole.sent requires.0 behind c.in-Ok.ensures.0 c.in-Ok.ensures.1 c.in-Ok.ensures.2 }
 
 pub returns-in-Ok-Whole : goal.returns-in-Ok-Whole
@@ -47,7 +47,7 @@ returns-in-Ok-Whole g c =
     let now = seen (told c.leave_run.new.files) (counted c.leave_run.new.files) in
     let whole = c.in-Ok-Whole in
     let came = rw whole.field-0-is at whole.ensures.runs in
-    let behind = done since a b job c.args.targets.now c.args.worker_plan.now _ _ whole.mode whole.state whole.sent requires.0 requires.1.1.1.1.1 requires.1.1.0 refl (first_is g.before a job c.args.targets.now requires.1.1.1.1.1) came whole.ensures.kept whole.ensures.cause in
+    let behind = done since a b job c.args.targets.now c.args.worker_plan.now _ _ whole.mode whole.state whole.sent requires.0 requires.1.1.1.1.1 requires.1.1.0 refl (first_is g.before a job c.args.targets.now requires.1.1.1.1.1) came whole.ensures.went.kept whole.ensures.went.cause in
     let stopped = unfinished since b now job whole.mode whole.state whole.sent c.in-Err-leave_run.stop requires.0 behind c.in-Err-leave_run.ensures in
     record { gens = halted since now job c.in-Err-leave_run.stop c.halt.result requires.0 c.halt.ensures stopped }
 
